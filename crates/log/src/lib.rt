@@ -1,0 +1,1 @@
+// A log of entries in words of 64 bits.

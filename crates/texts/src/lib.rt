@@ -1,0 +1,1 @@
+// Texts in words of 64 bits.
