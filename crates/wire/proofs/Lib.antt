@@ -5,3 +5,4 @@ pub mod Events
 pub mod Writable
 pub mod Trips
 pub mod Places
+pub mod Letters

@@ -16,7 +16,7 @@ use Rattle.wire.proofs.Numbers.{Maybe-text}
 use Rattle.wire.proofs.Commands.{Good-command, Good-entries}
 use Rattle.wire.proofs.Events.{Good-message, Good-event}
 
-good-perhaps : (e : Perhaps) → bytes-perhaps e ≡ true → leb (length e) 1 ≡ true → sized-perhaps e ≡ true → Maybe-text e
+pub good-perhaps : (e : Perhaps) → bytes-perhaps e ≡ true → leb (length e) 1 ≡ true → sized-perhaps e ≡ true → Maybe-text e
 unfolding bytes-perhaps
 good-perhaps [] b l s = tt
 good-perhaps (t ∷ ts) b l s = ((and-parts _ _ b .0, s), nil-from-length ts (omega (arith, leb-true (suc (length ts)) 1 l)))

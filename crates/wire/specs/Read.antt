@@ -135,3 +135,14 @@ read-letter bs =
 unfoldable pub read-letters : ℕ → List ℕ → Read (List Letter)
 read-letters zero bs = got [] bs
 read-letters (suc n) bs = and-then (read-letter bs) (λ x r. and-then (read-letters n r) (λ xs z. got (x ∷ xs) z))
+
+-- an answer at the front
+unfoldable pub read-answer : List ℕ → Read Answer
+read-answer [] = stuck 0
+read-answer (b ∷ bs) =
+    pick (eqb b 0) (and-then (read-byte bs) (λ j r. and-then (read-number r) (λ k z. got (refused j k) z)))
+    (pick (eqb b 1) (got not-leader bs)
+    (pick (eqb b 2)
+    (and-then (read-number bs) (λ n r.
+    and-then (read-saids n r) (λ ss r. and-then (read-number r) (λ m r. and-then (read-letters m r) (λ ls z. got (does ss ls) z)))))
+    (bad (b ∷ bs))))
