@@ -2,3 +2,5 @@ pub mod Write
 pub mod Read
 pub mod Codec
 pub mod Answers
+pub mod Means
+pub mod Arms
