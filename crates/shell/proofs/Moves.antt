@@ -8,15 +8,15 @@ use Rattle.std.proofs.shelf.Lists.{length-take-le, getD-drop, getD-append-right
 
 pub moved-one : (bs : List ℕ) (from i : ℕ) → from + i < length bs
     → set (take i (drop from bs) ++ drop i bs) i (getD (take i (drop from bs) ++ drop i bs) (from + i) 0)
-        ≡ take (i + 1) (drop from bs) ++ drop (i + 1) bs
+    ≡ take (i + 1) (drop from bs) ++ drop (i + 1) bs
 moved-one bs from i h =
     let k : i < length (drop from bs) = simp length-drop (omega arith) in
     let n : length (take i (drop from bs)) ≡ i = length-take-le i (drop from bs) (omega arith) in
     let e : getD (take i (drop from bs) ++ drop i bs) (from + i) 0 ≡ getD (drop from bs) i 0 =
-        getD-append-right (take i (drop from bs)) (drop i bs) i (from + i) 0 n (omega arith)
-        ∙ getD-drop i bs (from + i - i) 0
-        ∙ ap (λ (j : ℕ). getD bs j 0) (omega arith)
-        ∙ sym (getD-drop from bs i 0) in
+    getD-append-right (take i (drop from bs)) (drop i bs) i (from + i) 0 n (omega arith)
+    ∙ getD-drop i bs (from + i - i) 0
+    ∙ ap (λ (j : ℕ). getD bs j 0) (omega arith)
+    ∙ sym (getD-drop from bs i 0) in
     ap (λ (v : ℕ). set (take i (drop from bs) ++ drop i bs) i v) e
     ∙ ap (λ (z : List ℕ). set (take i (drop from bs) ++ z) i (getD (drop from bs) i 0)) (drop-more bs i 0 (omega arith))
     ∙ set-at (take i (drop from bs)) (getD bs i 0) (drop (i + 1) bs) (getD (drop from bs) i 0) i n

@@ -3,6 +3,8 @@ ghost use mathlib.Core.Path.{_≡_};
 ghost use mathlib.Core.List.{List, _++_};
 ghost use Prim.Native.Nat.{ℕ, _+_, _-_, _≤_};
 ghost use lib.ListN.{length, take, drop};
+ghost use Rattle.std.specs.Of.Vec.{vec-len};
+ghost use Rattle.std.specs.Results.{Cases};
 use std::io;
 use std::io::Read;
 
@@ -18,6 +20,8 @@ pub fn keep(buf: &mut [u8], from: usize, to: usize)
 
 // Reads what comes into the part that is free, which is made larger if there is none. Says how many bytes are there then.
 pub fn fill(input: &mut impl Read, buf: &mut Vec<u8>, filled: usize) -> io::Result<usize>
+    requires { ⌜ filled ≤ vec-len (now buf) ⌝ }
+    ensures { λ r. ⌜ Cases r (λ n. (filled ≤ n) × (n ≤ vec-len (now (buf .exit)))) (λ _. Unit {0}) ⌝ }
 {
     let len = buf.len();
     if filled >= len {
@@ -27,5 +31,5 @@ pub fn fill(input: &mut impl Read, buf: &mut Vec<u8>, filled: usize) -> io::Resu
         return Ok(filled);
     }
     let more = input.read(&mut buf[filled..])?;
-    Ok(filled.saturating_add(more))
+    Ok(filled + more)
 }
