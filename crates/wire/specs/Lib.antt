@@ -2,5 +2,3 @@ pub mod Write
 pub mod Read
 pub mod Codec
 pub mod Answers
-pub mod Means
-pub mod Arms
