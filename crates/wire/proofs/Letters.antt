@@ -33,7 +33,7 @@ said-back s rest f =
     good : (e : Perhaps) → fine-perhaps e ≡ true → Maybe-text e
     good e q = let p = and-parts _ _ q in let r = and-parts _ _ (p .1) in good-perhaps e (p .0) (r .0) (r .1)
 
-saids-back : (ss : List Said) (rest : List ℕ) → fine-saids ss ≡ true → read-saids (length ss) (write-saids ss ++ rest) ≡ got ss rest
+pub saids-back : (ss : List Said) (rest : List ℕ) → fine-saids ss ≡ true → read-saids (length ss) (write-saids ss ++ rest) ≡ got ss rest
 unfolding read-saids write-saids fine-saids
 saids-back [] rest f = refl
 saids-back (s ∷ ss) rest f =
@@ -47,7 +47,7 @@ letter-back x rest f =
     then byte (λ h. then number (λ n. last message (λ m. record { to = h; message = m })))
     .back (x .to, (length (write-message (x .message)), x .message)) rest (n .0, (n .1, good-message (x .message) (m .0) (m .1)))
 
-letters-back :
+pub letters-back :
     (xs : List Letter) (rest : List ℕ) → fine-letters xs ≡ true → read-letters (length xs) (write-letters xs ++ rest) ≡ got xs rest
 unfolding read-letters write-letters fine-letters
 letters-back [] rest f = refl
