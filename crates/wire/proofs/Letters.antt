@@ -1,22 +1,19 @@
 -- There and back for answers; and letters handed on.
-use mathlib.Core.Path.{_≡_, refl, sym, ap, subst, _∙_}
-use mathlib.Core.Bool.{Bool, true, false, _&&_}
+use mathlib.Core.Path.{_≡_, refl, sym, ap, _∙_}
+use mathlib.Core.Bool.{true}
 use mathlib.Core.List.{List, [], _∷_, _++_}
-use Prim.Native.Nat.{ℕ, zero, suc, _+_}
-use native.Mathlib.Omega.{arith}
-use lib.Dec.{ltb, leb, eqb}
+use Prim.Native.Nat.{ℕ, _+_}
 use lib.ListN.{length, take, drop}
-use Rattle.std.proofs.shelf.Lists.{append-assoc, append-nil, take-at, drop-at, drop-drop}
+use Rattle.std.proofs.shelf.Lists.{append-assoc, take-at, drop-at, drop-drop}
 use Rattle.std.proofs.shelf.Tests.{and-parts, ltb-true}
-use Rattle.servers.specs.Store.{pick, Perhaps}
-use Rattle.servers.specs.Server.{Event, comes, Said, Letter, Answer, refused, not-leader, does}
-use Rattle.servers.specs.Promise.{eight}
-use Rattle.wire.specs.Write.{write-number, write-message, write-said, write-saids, write-letter, write-letters, write-answer}
-use Rattle.wire.specs.Read.{got, and-then, number-of, read-event, read-said, read-saids, read-letter, read-letters, read-answer}
-use Rattle.wire.specs.Answers.{fine-perhaps, fine-said, fine-saids, fine-letter, fine-letters, fine-answer}
-use Rattle.wire.specs.Answers.{Answer-round-trip, Answers-apart, message-length, Handed-on, Letters-hand-on}
-use Rattle.wire.proofs.Codecs.{Arm, arm, then, last}
-use Rattle.wire.proofs.Numbers.{Maybe-text, Number, byte, number, perhaps, number-bytes, length-bytes-of}
+use Rattle.servers.specs.Store.{Perhaps}
+use Rattle.servers.specs.Server.{comes, Said, Letter, refused, not-leader, does}
+use Rattle.wire.specs.Write.{write-number, write-message, write-said, write-saids, write-letter, write-letters}
+use Rattle.wire.specs.Read.{got, number-of, read-event, read-said, read-saids, read-letter, read-letters, read-answer}
+use Rattle.wire.specs.Answers.{fine-perhaps, fine-said, fine-saids, fine-letter, fine-letters}
+use Rattle.wire.specs.Answers.{Answer-round-trip, Answers-apart, message-length, Letters-hand-on}
+use Rattle.wire.proofs.Codecs.{then, last}
+use Rattle.wire.proofs.Numbers.{Maybe-text, byte, number, perhaps, number-bytes, length-bytes-of}
 use Rattle.wire.proofs.Events.{message}
 use Rattle.wire.proofs.Writable.{good-perhaps, good-message}
 use Rattle.wire.proofs.Trips.{round-trip}

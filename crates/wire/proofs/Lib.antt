@@ -9,3 +9,10 @@ pub mod Letters
 pub mod Laws
 pub mod Reading
 pub mod Passing
+pub mod Tests
+pub mod Lengths
+pub mod Stored
+pub mod Kept
+pub mod Steps
+pub mod Answering
+pub mod Sizes

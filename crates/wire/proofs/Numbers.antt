@@ -13,7 +13,8 @@ use Rattle.std.proofs.shelf.Tests.{and-parts, and-from, cases-lt, lt-ltb, le-lt
 use Rattle.std.proofs.shelf.Ways.{tells}
 use Rattle.servers.specs.Store.{pick, Perhaps}
 use Rattle.servers.specs.Promise.{all-below, bytes, eight}
-use Rattle.wire.specs.Read.{Read, got, stuck, and-then, number-of, read-byte, read-number, read-bytes, read-text, read-bool, read-perhaps}
+use Rattle.wire.specs.Read.{Read, got, stuck, and-then, number-of, read-byte, read-number, read-bytes, read-text, read-bool}
+use Rattle.wire.specs.Read.{read-perhaps}
 use Rattle.wire.specs.Write.{bytes-of, write-number, write-text, write-bool, write-perhaps}
 use Rattle.wire.proofs.Codecs.{Codec, Seen, whole, short, same, last, recode, counted, tag, no-tag, no-byte}
 

@@ -4,7 +4,6 @@ use mathlib.Core.List.{[]}
 use lib.ListN.{length}
 use Rattle.std.proofs.shelf.Lists.{append-nil}
 use Rattle.servers.specs.Server.{Event}
-use Rattle.servers.specs.Promise.{bytes}
 use Rattle.wire.specs.Read.{got, read-front, read-event, whole}
 use Rattle.wire.specs.Write.{write-event}
 use Rattle.wire.specs.Codec.{Writable, Round-trip, Injective}

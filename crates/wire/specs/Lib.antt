@@ -4,3 +4,4 @@ pub mod Codec
 pub mod Answers
 pub mod Means
 pub mod Arms
+pub mod Sizes
