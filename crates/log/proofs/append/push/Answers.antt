@@ -3,7 +3,7 @@ use mathlib.Core.Path.{_≡_, ap, _∙_}
 use mathlib.Core.List.{List}
 use Prim.Native.Nat.{ℕ, _+_, _-_}
 use borrow.Rule.Slice.PartMut.{putMid}
-use Rattle.wire.specs.Means.{command-of}
+use Rattle.wire_read.specs.Means.{command-of}
 use Rattle.log.specs.Numbers.{entry-by}
 use Rattle.log.proofs.append.push.Needs as need
 use Rattle.log.proofs.Regions.{pushed}
