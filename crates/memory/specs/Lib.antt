@@ -1,0 +1,5 @@
+pub mod Region
+pub mod Words
+pub mod Layout
+pub mod Fits
+pub mod Program
