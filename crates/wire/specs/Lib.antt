@@ -1,0 +1,3 @@
+pub mod Write
+pub mod Read
+pub mod Codec
