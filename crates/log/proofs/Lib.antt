@@ -1,0 +1,5 @@
+pub mod Tests
+pub mod Places
+pub mod Rows
+pub mod Regions
+pub mod Found
