@@ -5,35 +5,21 @@ use mathlib.Core.List.{List, [], _∷_, _++_, map}
 use Prim.Native.Nat.{ℕ, zero, suc, _+_, _*_, _-_, _≤_, _<_}
 use lib.ListN.{length, getD, take, drop, replicate}
 use native.Mathlib.Omega.{arith}
-use Rattle.std.proofs.shelf.Lists.{append-assoc, drop-drop, drop-at, take-at, length-append, length-map, length-replicate}
+use Rattle.std.proofs.shelf.Lists.{drop-drop, drop-at, take-at, length-map}
 use Rattle.servers.specs.Server.{Entry, Limits, State, last-of-all}
-use Rattle.log.specs.Rows.{log-words, log-in, log-region}
+use Rattle.log.specs.Rows.{log-in, log-region}
 use Rattle.memory.specs.Words.{option-word, option-in, bits-of, bools, cache-words, cache-in}
 use Rattle.memory.specs.Region.{items-of}
 use Rattle.memory.specs.Layout.{rest-of, memory-of, limits-in, log-part, region-in, state-in}
 use Rattle.memory.specs.Fits.{Entry-fits, Mid}
-use Rattle.memory.proofs.Owed.{length-log-words, log-again}
+use Rattle.log.proofs.Rows.{length-region, log-again}
 use Rattle.memory.proofs.Parts.{option-again, options-again, bit-again, bits-again, length-cache-words, cache-again}
-
--- a part after the head, n words further
-past-head : (l : Limits) (s : State) (r : List ℕ) (at n : ℕ) → at ≡ 14 + n → drop at (memory-of l s r) ≡ drop n (rest-of l s r)
-past-head l s r at n e = rw (e, ← drop-drop n 14 (memory-of l s r)) refl
 
 -- one part further, where the part at `at` is ys of n words
 further : {A : Type 0} (at n next : ℕ) (m ys zs : List A) → drop at m ≡ ys ++ zs → length ys ≡ n → next ≡ at + n → drop next m ≡ zs
 further at n next m ys zs e k h = rw (h, ← drop-drop n at m, e) (drop-at ys zs n k)
 
-pub length-log-region : (n : ℕ) (es : List Entry) → length es ≤ n → length (log-region n es) ≡ 80 * n
-length-log-region n es h =
-    let a = length-append (log-words es) (replicate {A = ℕ} (80 * (n - length es)) 0) in
-    let b = length-log-words es in
-    let c = length-replicate {A = ℕ} (80 * (n - length es)) 0 in
-    omega arith
-
 -- where the parts begin
-pub at-nexts : (l : Limits) (s : State) (r : List ℕ) → drop 14 (memory-of l s r) ≡ rest-of l s r
-at-nexts l s r = refl
-
 pub at-matches : (l : Limits) (n : ℕ) (s : State) (r : List ℕ) → Mid l n s r
     → drop (14 + l .servers) (memory-of l s r) ≡ s .matches ++ (cache-words (s .cache) ++ (log-region (l .room) (s .log) ++ r))
 at-matches l n s r f =
@@ -56,12 +42,12 @@ at-log l n s r f =
 pub log-back : (l : Limits) (n : ℕ) (s : State) (r : List ℕ) → Mid l n s r
     → log-part (memory-of l s r) ≡ log-region (l .room) (s .log)
 log-back l n s r f =
-    rw (at-log l n s r f) (take-at (log-region (l .room) (s .log)) r (80 * l .room) (length-log-region (l .room) (s .log) (f .1 .room)))
+    rw (at-log l n s r f) (take-at (log-region (l .room) (s .log)) r (80 * l .room) (length-region (l .room) (s .log) (f .1 .room)))
 
 pub region-back : (l : Limits) (n : ℕ) (s : State) (r : List ℕ) → Mid l n s r → region-in (memory-of l s r) ≡ r
 region-back l n s r f =
     further (14 + 2 * l .servers + 68 * l .clients) (80 * l .room) (14 + 2 * l .servers + 68 * l .clients + 80 * l .room)
-        (memory-of l s r) (log-region (l .room) (s .log)) r (at-log l n s r f) (length-log-region (l .room) (s .log) (f .1 .room)) refl
+        (memory-of l s r) (log-region (l .room) (s .log)) r (at-log l n s r f) (length-region (l .room) (s .log) (f .1 .room)) refl
 
 pub state-back : (l : Limits) (n : ℕ) (s : State) (r : List ℕ) → Mid l n s r → state-in (memory-of l s r) ≡ s
 state-back l n s r f =

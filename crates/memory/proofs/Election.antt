@@ -13,7 +13,7 @@ use Rattle.texts.specs.Words.{All}
 use Rattle.memory.specs.Fits.{Head, Logged, Known, Kept, Mid, Fits}
 use Rattle.memory.proofs.Tests.{pick-by}
 use Rattle.memory.proofs.Each.{all-set, length-set-at, all-many, length-many}
-use Rattle.memory.proofs.Logs.{row-last}
+use Rattle.log.proofs.Places.{last-index-row}
 
 pub fits-advanced : (l : Limits) (s : State) (r : List ℕ) (t : ℕ) → t ≤ last-of-all → Fits l s r → Fits l (advanced t s) r
 fits-advanced l s r t h f =
@@ -67,7 +67,7 @@ known-votes l nexts ms vs ws e k =
 pub fits-hears-vote : (l : Limits) (s : State) (r : List ℕ) (h t : ℕ) (ok : Bool) → t ≤ last-of-all
     → Fits l s r → Fits l (hears-vote l s h t ok) r
 fits-hears-vote l s r h t ok ht f =
-    let e = row-last (s .log) (f .1 .row) in
+    let e = last-index-row (s .log) (f .1 .row) in
     let k = f .1 .room in
     let vs : List Bool = pick ok (set-at (s .votes) h true) (s .votes) in
     let long : length vs ≡ l .servers =

@@ -1,6 +1,5 @@
 pub mod Tests
 pub mod Each
-pub mod Owed
 pub mod Parts
 pub mod Back
 pub mod Logs

@@ -14,16 +14,6 @@ use Rattle.servers.specs.Server.{Entry, Limits, State, last-index, up-to, entry
 use Rattle.log.specs.Rows.{Row}
 use Rattle.memory.proofs.Tests.{bool-by, pick-by}
 
-pub row-last : (es : List Entry) → Row es → last-index es ≡ length es
-row-last [] r = refl
-row-last (e ∷ es) r = r .0
-
-pub row-up-to : (i : ℕ) (es : List Entry) → Row es → Row (up-to i es)
-unfolding up-to
-row-up-to i [] h = tt
-row-up-to i (e ∷ es) h =
-    pick-by (λ (x : List Entry). Row x) (leb (e .index) i) (e ∷ es) (up-to i es) (λ q. h) (λ q. row-up-to i es (h .1))
-
 -- where there is an entry at i, the log up to i is i long
 pub long-up-to : (i u : ℕ) (es : List Entry) → Row es → term-is (entry-at i es) u ≡ true → length (up-to i es) ≡ i
 unfolding up-to entry-at
@@ -42,15 +32,6 @@ long-up-to i u (e ∷ es) r h =
         | inr k ↦
             rw (lt-leb (e .index) i k)
                 (ih (rw (ne-eqb (e .index) i (λ z. omega arith), le-ltb (e .index) i (omega arith)) at h)) ] ]
-
-pub row-append : (i : ℕ) (es log : List Entry) → in-a-row i es ≡ true → length log ≡ i → Row log → Row (es ++ log)
-unfolding in-a-row
-row-append i [] log h k r = r
-row-append i (e ∷ es) log h k r =
-    let p = and-parts (eqb (e .index) (suc (i + length es))) (in-a-row i es) h in
-    let q = eqb-true (e .index) (suc (i + length es)) (p .0) in
-    let l = length-append es log in
-    (omega arith, row-append i es log (p .1) k r)
 
 -- settling stays within the log, or where it was
 pub settled-low : (l : Limits) (s : State) (n : ℕ) (es : List Entry) → Row es → length es ≤ n → s .commit ≤ n → settled-to l s es ≤ n

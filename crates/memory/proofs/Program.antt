@@ -20,9 +20,9 @@ use Rattle.memory.specs.Fits.{Head, Logged, Known, Kept, Mid, Fits}
 use Rattle.memory.specs.Program.{region-after, called, says, program}
 use Rattle.memory.proofs.Tests.{pick-false}
 use Rattle.memory.proofs.Each.{Word, all-append, all-many, length-many, below-all}
-use Rattle.memory.proofs.Owed.{log-low}
+use Rattle.log.proofs.Rows.{length-region, log-low}
 use Rattle.memory.proofs.Parts.{option-low, options-low, bit-low, bits-below, length-cache-words, cache-low, zeros-low, matches-low}
-use Rattle.memory.proofs.Back.{length-log-region, state-back, limits-back, region-back}
+use Rattle.memory.proofs.Back.{state-back, limits-back, region-back}
 use Rattle.memory.proofs.Election.{none-known}
 use Rattle.memory.proofs.Events.{fits-after}
 
@@ -107,7 +107,7 @@ length-memory l n s r f =
     let d = length-append log r in
     let nexts = length-map (s .nexts) option-word in
     let cache = length-cache-words (s .cache) in
-    let rows = length-log-region (l .room) (s .log) (f .1 .room) in
+    let rows = length-region (l .room) (s .log) (f .1 .room) in
     omega arith
 
 -- each of its numbers is a word

@@ -19,7 +19,9 @@ use Rattle.memory.specs.Words.{One-below}
 use Rattle.memory.specs.Fits.{Entry-fits, Head, Logged, Known, Kept, Mid, Fits}
 use Rattle.memory.proofs.Tests.{pick-by}
 use Rattle.memory.proofs.Each.{all-append, all-set, length-set-at, all-nth, all-up-to}
-use Rattle.memory.proofs.Logs.{row-last, row-up-to, long-up-to, row-append, settled-low}
+use Rattle.log.proofs.Places.{last-index-row, row-up-to}
+use Rattle.log.proofs.Regions.{row-append}
+use Rattle.memory.proofs.Logs.{long-up-to, settled-low}
 use Rattle.memory.proofs.Election.{fits-advanced, known-match}
 
 pub least-low : (a b n : ℕ) → a ≤ n → b ≤ n → at-least a b ≤ n
@@ -74,7 +76,7 @@ next-low l (n ∷ ns) d h k = let p = h .0 in omega arith
 
 pub next-fits : (l : Limits) (s : State) (r : List ℕ) (h : ℕ) → Fits l s r → next-for s h ≤ l .room + 1
 next-fits l s r h f =
-    let e = row-last (s .log) (f .1 .row) in
+    let e = last-index-row (s .log) (f .1 .row) in
     let k = f .1 .room in
     next-low l (nth [] (s .nexts) h) (last-index (s .log)) (all-nth (One-below (l .room + 2)) [] (s .nexts) h (f .2 .next-each) tt)
         (omega arith)
@@ -113,7 +115,7 @@ fits-hears-appended l s r h t i ok ht hi f =
 pub fits-request : (l : Limits) (s : State) (r : List ℕ) (c k : ℕ) (x : Command) → l .me < l .servers → c < l .clients → k < word
     → Good-command x → length (s .log) < l .room → Fits l s r → Fits l (with-request l c k x s) r
 fits-request l s r c k x m hc hk g h f =
-    let e = row-last (s .log) (f .1 .row) in
+    let e = last-index-row (s .log) (f .1 .row) in
     (f .0, record {
         row = (ap suc e, f .1 .row);
         entries = (record { at = m; client = hc; id = hk; term = f .0 .term; command = g }, f .1 .entries);

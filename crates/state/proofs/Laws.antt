@@ -5,7 +5,7 @@ use Prim.Native.Nat.{ℕ, zero, suc, _+_, _*_, _≤_, _<_}
 use lib.ListN.{length, getD, take, drop}
 use native.Mathlib.Omega.{arith}
 use Rattle.servers.specs.Server.{Limits, State, Event, last-index, after}
-use Rattle.log.specs.Rows.{log-in, row-in}
+use Rattle.log.proofs.Places.{log-in-row, last-index-row}
 use Rattle.memory.specs.Layout.{memory-of, region-in, servers-in, clients-in, room-in, log-part}
 use Rattle.memory.specs.Fits.{Bounded, Mid, Fits}
 use Rattle.memory.specs.Program.{serves, region-after, called}
@@ -81,20 +81,12 @@ pub long : (m : List ℕ) → Held m
     → length m ≡ 14 + 2 * servers-in m + 68 * clients-in m + 80 * room-in m + length (region-in m)
 long m h = ap length (h .is) ∙ length-memory (limits-of m) (state-of m .applied) (state-of m) (region-in m) (h .fits)
 
-pub length-log-in : (n : ℕ) (ws : List ℕ) → length (log-in n ws) ≡ n
-unfolding log-in
-length-log-in zero ws = refl
-length-log-in (suc n) ws = ap suc (length-log-in n ws)
-
-pub last-index-in : (n : ℕ) (ws : List ℕ) → last-index (log-in n ws) ≡ n
-unfolding log-in row-in
-last-index-in zero ws = refl
-last-index-in (suc n) ws = refl
-
 -- the log's length is within its room
 pub long-log : (m : List ℕ) → Held m → getD m 10 0 ≤ room-in m
-long-log m h = let z = h .fits .1 .room in let y = length-log-in (getD m 10 0) (log-part m) in omega arith
+long-log m h = let z = h .fits .1 .room in let y = log-in-row (getD m 10 0) (log-part m) .1 in omega arith
 
 -- the last index is the length
 pub last-is : (m : List ℕ) → last-index (state-of m .log) ≡ getD m 10 0
-last-is m = last-index-in (getD m 10 0) (log-part m)
+last-is m =
+    let row = log-in-row (getD m 10 0) (log-part m) in
+    last-index-row (state-of m .log) (row .0) ∙ row .1

@@ -15,17 +15,13 @@ use Rattle.memory.specs.Words.{option-word, cached-words, cached-in, cache-word
 use Rattle.memory.specs.Region.{items-of, Region-ok}
 use Rattle.memory.specs.Layout.{rest-of, memory-of, servers-in, clients-in, room-in, log-at, cache-at, store-at, log-part, region-in, state-in}
 use Rattle.memory.specs.Fits.{Entry-fits, Good-item, Head, Logged, Known, Kept, Mid, Fits}
-use Rattle.memory.proofs.Back.{length-log-region, log-back, at-log, at-cache}
+use Rattle.log.proofs.Rows.{length-region}
+use Rattle.log.proofs.Regions.{put-part}
+use Rattle.memory.proofs.Back.{log-back}
 use Rattle.memory.proofs.Parts.{length-cached, length-cache-words}
 use Rattle.memory.proofs.Program.{length-memory}
 use Rattle.state.specs.Held.{limits-of, state-of, Held, Turns, Becomes}
 use Rattle.state.proofs.Laws.{turns, becomes}
-
--- a part in the middle is replaced
-put-part : (n k : ℕ) (front old back new : List ℕ) → length front ≡ n → length old ≡ k
-    → putMid n k (front ++ (old ++ back)) new ≡ front ++ (new ++ back)
-put-part n k front old back new e f =
-    rw (take-at front (old ++ back) n e, drop-at front (old ++ back) n e, drop-at old back k f) refl
 
 -- the words before the sessions
 abbrev peers : Limits → State → List ℕ
@@ -61,7 +57,7 @@ put-log l n s r ys es k at size f p q y e =
         ap (λ (z : List ℕ). head ++ z) (spread (map option-word (s .nexts)) (s .matches) (cache-words (s .cache)) (old ++ r)) in
     let put : putMid at size (memory-of l s r) ys ≡ front ++ (ys ++ r) =
         ap (λ (z : List ℕ). putMid at size z ys) shape
-        ∙ put-part at size front old r ys long (length-log-region (l .room) (s .log) (f .1 .room) ∙ sym q) in
+        ∙ put-part at size front old r ys long (length-region (l .room) (s .log) (f .1 .room) ∙ sym q) in
     ap (λ (z : List ℕ). set z 10 k) put
     ∙ (ap (λ (z : List ℕ). set (front ++ (z ++ r)) 10 k) y
     ∙ (ap (λ (z : ℕ). set head 10 z ++ ((peers l s ++ cache-words (s .cache)) ++ (log-region (l .room) es ++ r))) e
