@@ -6,7 +6,8 @@ ghost use mathlib.Core.List.{List, [], _∷_};
 ghost use Prim.Native.Nat.{ℕ, _+_, _-_, _*_, _<_, _≤_};
 ghost use lib.ListN.{length, getD, set};
 ghost use lib.Dec.{ltb, leb, eqb};
-ghost use Rattle.servers.specs.Server.{State, with-term, with-voted, with-commit, with-applied, with-send, following, wants, empty, may-vote, last-index, last-of-all};
+ghost use Rattle.servers.specs.Server.{State, with-term, advanced, with-voted, with-commit, with-applied, with-send, following, wants,
+    empty, may-vote, last-index, last-of-all};
 ghost use Rattle.memory.specs.Layout.{servers-in, me-in, room-in};
 ghost use Rattle.state.specs.Held.{Held, Becomes, limits-of, state-of};
 ghost use Rattle.state.specs.States.{with-kind, calmed};
@@ -56,6 +57,7 @@ pub fn applied(mem: &[u64]) -> u64
 pub fn last_index(mem: &[u64]) -> u64
     requires held { ⌜ Held (now mem) ⌝ }
     ensures word { λ r. ⌜ r ≡ getD (now (mem .entry)) 10 0 ⌝ }
+    ensures last { λ r. ⌜ r ≡ last-index (state-of (now (mem .entry)) .log) ⌝ }
 {
     mem[LENGTH]
 }
@@ -173,4 +175,15 @@ pub fn must_send(mem: &[u64]) -> bool
     ensures { λ r. ⌜ r ≡ state-of (now (mem .entry)) .send ⌝ }
 {
     mem[SEND] == 1
+}
+
+// A term that is newer is taken; any other changes nothing.
+pub fn advance(mem: &mut [u64], t: u64)
+    requires held { ⌜ Held (now mem) ⌝ }
+    requires low { ⌜ t ≤ last-of-all ⌝ }
+    ensures { λ _. ⌜ Becomes (now (mem .entry)) (now (mem .exit)) (advanced t (state-of (now (mem .entry)))) ⌝ }
+{
+    if term(mem) < t {
+        take_term(mem, t);
+    }
 }

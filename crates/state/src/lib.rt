@@ -3,3 +3,4 @@ pub mod limits;
 pub mod head;
 pub mod peers;
 pub mod votes;
+pub mod parts;
