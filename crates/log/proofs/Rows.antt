@@ -124,12 +124,13 @@ command-low : (x : Command) → Good-command x → All Word (command-words x)
 command-low x g =
     let t = tag-low x in
     let a = g .0 .0 in
-    let b = g .2 .0 in
-    (omega arith,
-        all-both Word (text-words 8 (name-of x)) (perhaps-words 32 (expects x) ++ text-words 32 (text-of x))
-        (text-fits 8 (name-of x) (g .0) (omega arith))
-        (all-both Word (perhaps-words 32 (expects x)) (text-words 32 (text-of x))
-            (perhaps-fits 32 (expects x) (g .1) (omega arith)) (text-fits 32 (text-of x) (g .2) (omega arith))))
+    let b = g .2 .0 in (
+      omega arith,
+      all-both Word (text-words 8 (name-of x)) (perhaps-words 32 (expects x) ++ text-words 32 (text-of x))
+          (text-fits 8 (name-of x) (g .0) (omega arith))
+          (all-both Word (perhaps-words 32 (expects x)) (text-words 32 (text-of x))
+          (perhaps-fits 32 (expects x) (g .1) (omega arith)) (text-fits 32 (text-of x) (g .2) (omega arith))),
+    )
 
 pub row-low : (servers clients last : ℕ) (e : Entry) → servers ≤ word → clients ≤ word → last < word → Good-entry servers clients last e
     → All Word (row-words e)

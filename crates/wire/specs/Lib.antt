@@ -1,3 +1,6 @@
 pub mod Write
 pub mod Read
 pub mod Codec
+pub mod Answers
+pub mod Means
+pub mod Arms

@@ -1,0 +1,1 @@
+// Texts by names in a part of lent words.
