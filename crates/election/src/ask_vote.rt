@@ -57,7 +57,10 @@ pub fn asked_for_vote(mem: &mut [u64], h: u64, term: u64, last: u64, of: u64) ->
 {
     let own = head::term(mem);
     if term < own {
-        return Vote { term: own, granted: false };
+        return Vote {
+            term: own,
+            granted: false,
+        };
     }
     head::advance(mem, term);
     let granted = grants(mem, h, last, of);

@@ -7,8 +7,8 @@ ghost use lib.Dec.{ltb, eqb};
 ghost use Rattle.servers.specs.Server.{State, timeout, first-step, last-of-all};
 ghost use Rattle.state.specs.Held.{Held, Becomes, limits-of, state-of};
 ghost use Rattle.election.specs.Steps.{goes-on};
+use servers::limits::Limits;
 use state::head;
-use state::limits::Limits;
 
 // Whether there is a next term to stand in, for who doesn't lead.
 pub fn may_go_on(mem: &[u64]) -> bool

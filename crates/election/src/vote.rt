@@ -10,7 +10,7 @@ ghost use Rattle.memory.specs.Layout.{servers-in};
 ghost use Rattle.state.specs.Held.{Held, Becomes, limits-of, state-of};
 ghost use Rattle.election.specs.Steps.{fresh, voted-by};
 use state::head;
-use state::limits::Limits;
+use state::limits::limits;
 use state::peers;
 use state::votes;
 
@@ -20,7 +20,7 @@ fn start_afresh(mem: &mut [u64])
     ensures { λ _. ⌜ Becomes (now (mem .entry)) (now (mem .exit)) (fresh (limits-of (now (mem .entry))) (state-of (now (mem .entry)))) ⌝ }
 {
     let last = head::last_index(mem);
-    let me = Limits::of(mem).me;
+    let me = limits(mem).me;
     peers::forget(mem);
     peers::set_match(mem, me as usize, last);
 }

@@ -9,7 +9,7 @@ use Rattle.std.proofs.shelf.Lists.{drop-drop, drop-at, take-at, length-map}
 use Rattle.servers.specs.Server.{Entry, Limits, State, last-of-all}
 use Rattle.log.specs.Rows.{log-in, log-region}
 use Rattle.memory.specs.Words.{option-word, option-in, bits-of, bools, cache-words, cache-in}
-use Rattle.memory.specs.Region.{items-of}
+use Rattle.store.specs.Region.{items-of}
 use Rattle.memory.specs.Layout.{rest-of, memory-of, limits-in, log-part, region-in, state-in}
 use Rattle.memory.specs.Fits.{Entry-fits, Mid}
 use Rattle.log.proofs.Rows.{length-region, log-again}
@@ -24,20 +24,20 @@ pub at-matches : (l : Limits) (n : ℕ) (s : State) (r : List ℕ) → Mid l n s
     → drop (14 + l .servers) (memory-of l s r) ≡ s .matches ++ (cache-words (s .cache) ++ (log-region (l .room) (s .log) ++ r))
 at-matches l n s r f =
     further 14 (l .servers) (14 + l .servers) (memory-of l s r) (map option-word (s .nexts)) _ refl
-        (length-map (s .nexts) option-word ∙ f .2 .next-long) refl
+    (length-map (s .nexts) option-word ∙ f .2 .next-long) refl
 
 pub at-cache : (l : Limits) (n : ℕ) (s : State) (r : List ℕ) → Mid l n s r
     → drop (14 + 2 * l .servers) (memory-of l s r) ≡ cache-words (s .cache) ++ (log-region (l .room) (s .log) ++ r)
 at-cache l n s r f =
     further (14 + l .servers) (l .servers) (14 + 2 * l .servers) (memory-of l s r) (s .matches) _ (at-matches l n s r f)
-        (f .2 .match-long) (omega arith)
+    (f .2 .match-long) (omega arith)
 
 pub at-log : (l : Limits) (n : ℕ) (s : State) (r : List ℕ) → Mid l n s r
     → drop (14 + 2 * l .servers + 68 * l .clients) (memory-of l s r) ≡ log-region (l .room) (s .log) ++ r
 at-log l n s r f =
     further (14 + 2 * l .servers) (68 * l .clients) (14 + 2 * l .servers + 68 * l .clients) (memory-of l s r)
-        (cache-words (s .cache)) _ (at-cache l n s r f)
-        (length-cache-words (s .cache) ∙ ap (λ (n : ℕ). 68 * n) (f .3 .cache-long)) refl
+    (cache-words (s .cache)) _ (at-cache l n s r f)
+    (length-cache-words (s .cache) ∙ ap (λ (n : ℕ). 68 * n) (f .3 .cache-long)) refl
 
 pub log-back : (l : Limits) (n : ℕ) (s : State) (r : List ℕ) → Mid l n s r
     → log-part (memory-of l s r) ≡ log-region (l .room) (s .log)
@@ -47,26 +47,36 @@ log-back l n s r f =
 pub region-back : (l : Limits) (n : ℕ) (s : State) (r : List ℕ) → Mid l n s r → region-in (memory-of l s r) ≡ r
 region-back l n s r f =
     further (14 + 2 * l .servers + 68 * l .clients) (80 * l .room) (14 + 2 * l .servers + 68 * l .clients + 80 * l .room)
-        (memory-of l s r) (log-region (l .room) (s .log)) r (at-log l n s r f) (length-region (l .room) (s .log) (f .1 .room)) refl
+    (memory-of l s r) (log-region (l .room) (s .log)) r (at-log l n s r f) (length-region (l .room) (s .log) (f .1 .room)) refl
 
 pub state-back : (l : Limits) (n : ℕ) (s : State) (r : List ℕ) → Mid l n s r → state-in (memory-of l s r) ≡ s
 state-back l n s r f =
     let nexts : take (l .servers) (rest-of l s r) ≡ map option-word (s .nexts) =
-        take-at (map option-word (s .nexts)) _ (l .servers) (length-map (s .nexts) option-word ∙ f .2 .next-long) in
+    take-at (map option-word (s .nexts)) _ (l .servers) (length-map (s .nexts) option-word ∙ f .2 .next-long) in
     let matches : take (l .servers) (drop (14 + l .servers) (memory-of l s r)) ≡ s .matches =
-        rw (at-matches l n s r f) (take-at (s .matches) _ (l .servers) (f .2 .match-long)) in
+    rw (at-matches l n s r f) (take-at (s .matches) _ (l .servers) (f .2 .match-long)) in
     let cache : cache-in (l .clients) (drop (14 + 2 * l .servers) (memory-of l s r)) ≡ s .cache =
-        rw (at-cache l n s r f, ← f .3 .cache-long) (cache-again (s .cache) _ (f .3 .cache-each)) in
+    rw (at-cache l n s r f, ← f .3 .cache-long) (cache-again (s .cache) _ (f .3 .cache-each)) in
     let log : log-in (length (s .log)) (log-part (memory-of l s r)) ≡ s .log =
-        ap (log-in (length (s .log))) (log-back l n s r f)
-        ∙ log-again (l .servers) (l .clients) last-of-all (s .log) _ (f .1 .row) (f .1 .entries) in
+    ap (log-in (length (s .log))) (log-back l n s r f)
+    ∙ log-again (l .servers) (l .clients) last-of-all (s .log) _ (f .1 .row) (f .1 .entries) in
     let votes : bools (l .servers) (bits-of (s .votes)) ≡ s .votes = rw (← f .2 .votes) (bits-again (s .votes)) in
     let store : items-of (region-in (memory-of l s r)) ≡ s .store = ap items-of (region-back l n s r f) ∙ f .3 .same in
-    rw (option-again (l .servers) (s .voted) (f .0 .voted), option-again (l .servers) (s .leader) (f .0 .leader), log, store,
-        nexts, options-again (l .room + 2) (s .nexts) (f .2 .next-each), matches, bit-again (s .send), votes, cache) refl
+    rw (
+      option-again (l .servers) (s .voted) (f .0 .voted),
+      option-again (l .servers) (s .leader) (f .0 .leader),
+      log,
+      store,
+      nexts,
+      options-again (l .room + 2) (s .nexts) (f .2 .next-each),
+      matches,
+      bit-again (s .send),
+      votes,
+      cache,
+    ) refl
 
 pub limits-back : (can : ℕ → Bool) (l : Limits) (s : State) (r : List ℕ) → ((k : ℕ) → l .events-can k ≡ can k)
     → limits-in can (memory-of l s r) ≡ l
 limits-back can l s r h =
     ap (λ (c : ℕ → Bool). record { events-can = c; servers = l .servers; me = l .me; clients = l .clients; room = l .room })
-        (fun-ext (λ k. sym (h k)))
+    (fun-ext (λ k. sym (h k)))

@@ -58,7 +58,7 @@ unfolding due
 all-due P lo hi [] h = tt
 all-due P lo hi (e ∷ es) h =
     all-append P (due lo hi es) _ (all-due P lo hi es (h .1))
-        (pick-by (λ (x : List Entry). All P x) (ltb lo (e .index) && leb (e .index) hi) (e ∷ []) [] (λ q. (h .0, tt)) (λ q. tt))
+    (pick-by (λ (x : List Entry). All P x) (ltb lo (e .index) && leb (e .index) hi) (e ∷ []) [] (λ q. (h .0, tt)) (λ q. tt))
 
 -- from the promises' test to each, and back
 pub all-bytes : (n : ℕ) (t : List ℕ) → all-below n t ≡ true → All (λ x. x < n) t

@@ -7,7 +7,22 @@ use lib.Dec.{ltb, eqb}
 use lib.ListN.{length}
 use native.Mathlib.Omega.{arith}
 use Rattle.servers.specs.Store.{pick}
-use Rattle.servers.specs.Server.{Limits, State, many, set-at, last-index, last-of-all, with-term, advanced, grants, asked, won, hears-vote, wants, restarted}
+use Rattle.servers.specs.Server.{
+  Limits,
+  State,
+  many,
+  set-at,
+  last-index,
+  last-of-all,
+  with-term,
+  advanced,
+  grants,
+  asked,
+  won,
+  hears-vote,
+  wants,
+  restarted,
+}
 use Rattle.memory.specs.Words.{One-below}
 use Rattle.texts.specs.Words.{All}
 use Rattle.memory.specs.Fits.{Head, Logged, Known, Kept, Mid, Fits}
@@ -18,16 +33,16 @@ use Rattle.log.proofs.Places.{last-index-row}
 pub fits-advanced : (l : Limits) (s : State) (r : List ℕ) (t : ℕ) → t ≤ last-of-all → Fits l s r → Fits l (advanced t s) r
 fits-advanced l s r t h f =
     pick-by (λ (y : State). Fits l y r) (ltb (s .term) t) (with-term t s) s
-        (λ q. (record { term = h; voted = tt; leader = tt; kind = omega arith }, f .1, f .2, f .3)) (λ q. f)
+    (λ q. (record { term = h; voted = tt; leader = tt; kind = omega arith }, f .1, f .2, f .3)) (λ q. f)
 
 pub fits-asked : (l : Limits) (s : State) (r : List ℕ) (h t i u : ℕ) → h < l .servers → t ≤ last-of-all
     → Fits l s r → Fits l (asked s h t i u) r
 fits-asked l s r h t i u hh ht f =
     let a = fits-advanced l s r t ht f in
     pick-by (λ (y : State). Fits l y r) (ltb t (s .term)) _ _ (λ q. f)
-        (λ q. pick-by (λ (y : State). Fits l y r) (grants s h t i u) _ _
-            (λ z. (record { term = a .0 .term; voted = (hh, refl); leader = a .0 .leader; kind = a .0 .kind }, a .1, a .2, a .3))
-            (λ z. a))
+    (λ q. pick-by (λ (y : State). Fits l y r) (grants s h t i u) _ _
+    (λ z. (record { term = a .0 .term; voted = (hh, refl); leader = a .0 .leader; kind = a .0 .kind }, a .1, a .2, a .3))
+    (λ z. a))
 
 -- nothing is known of the others
 pub none-known : (l : Limits) (vs : List Bool) → length vs ≡ l .servers → Known l (many (l .servers) []) (many (l .servers) 0) vs
@@ -71,26 +86,36 @@ fits-hears-vote l s r h t ok ht f =
     let k = f .1 .room in
     let vs : List Bool = pick ok (set-at (s .votes) h true) (s .votes) in
     let long : length vs ≡ l .servers =
-        pick-by (λ (x : List Bool). length x ≡ l .servers) ok _ _ (λ v. length-set-at (s .votes) h true ∙ f .2 .votes) (λ v. f .2 .votes) in
+    pick-by (λ (x : List Bool). length x ≡ l .servers) ok _ _ (λ v. length-set-at (s .votes) h true ∙ f .2 .votes) (λ v. f .2 .votes) in
     pick-by (λ (y : State). Fits l y r) (ltb (s .term) t) _ _ (λ q. fits-advanced l s r t ht f)
-        (λ q. pick-by (λ (y : State). Fits l y r) (ltb t (s .term)) _ _ (λ z. f)
-            (λ z. pick-by (λ (y : State). Fits l y r) (eqb (s .kind) 1) _ _
-                (λ w. (record {
-                    term = f .0 .term;
-                    voted = f .0 .voted;
-                    leader = f .0 .leader;
-                    kind = pick-by (λ (x : ℕ). x ≤ 2) (ok && won l vs) 2 (s .kind) (λ v. omega arith) (λ v. f .0 .kind);
-                  }, f .1, known-match l _ _ vs (l .me) (last-index (s .log)) (omega arith) (none-known l vs long), f .3))
-                (λ w. f)))
+    (λ q. pick-by (λ (y : State). Fits l y r) (ltb t (s .term)) _ _ (λ z. f)
+    (λ z. pick-by (λ (y : State). Fits l y r) (eqb (s .kind) 1) _ _
+    (λ w. (
+      record {
+        term = f .0 .term;
+        voted = f .0 .voted;
+        leader = f .0 .leader;
+        kind = pick-by (λ (x : ℕ). x ≤ 2) (ok && won l vs) 2 (s .kind) (λ v. omega arith) (λ v. f .0 .kind);
+      },
+      f .1,
+      known-match l _ _ vs (l .me) (last-index (s .log)) (omega arith) (none-known l vs long),
+      f .3,
+    ))
+    (λ w. f)))
 
 pub fits-wants : (l : Limits) (s : State) (r : List ℕ) → l .me < l .servers → s .term < last-of-all
     → Fits l s r → Fits l (wants l s) r
-fits-wants l s r m h f =
-    (record { term = omega arith; voted = (m, refl); leader = f .0 .leader; kind = omega arith }, f .1,
-        known-votes l _ _ (s .votes) _ (length-set-at (many (l .servers) false) (l .me) true ∙ length-many (l .servers) false) (f .2),
-        f .3)
+fits-wants l s r m h f = (
+  record { term = omega arith; voted = (m, refl); leader = f .0 .leader; kind = omega arith },
+  f .1,
+  known-votes l _ _ (s .votes) _ (length-set-at (many (l .servers) false) (l .me) true ∙ length-many (l .servers) false) (f .2),
+  f .3,
+)
 
 pub fits-restarted : (l : Limits) (s : State) (r : List ℕ) → Fits l s r → Fits l (restarted l s) r
-fits-restarted l s r f =
-    (record { term = f .0 .term; voted = f .0 .voted; leader = f .0 .leader; kind = omega arith }, f .1,
-        none-known l (many (l .servers) false) (length-many (l .servers) false), f .3)
+fits-restarted l s r f = (
+  record { term = f .0 .term; voted = f .0 .voted; leader = f .0 .leader; kind = omega arith },
+  f .1,
+  none-known l (many (l .servers) false) (length-many (l .servers) false),
+  f .3,
+)

@@ -8,12 +8,43 @@ use lib.ListN.{length}
 use native.Mathlib.Omega.{arith}
 use Rattle.std.proofs.shelf.Tests.{and-parts, leb-false, eqb-true, ltb-true, leb-true, both-ways}
 use Rattle.servers.specs.Store.{pick}
-use Rattle.servers.specs.Server.{Message, ask-vote, vote, append, appended, Event, timeout, request, comes, restart, garbled, Limits,
-    State, last-of-all, in-a-row, clients-there, all-short-entries, terms-below, short, heard, good-message, good-fields, out-of-row,
-    settles, dues, turned-by, turned, first-step, ends-there, event-number, after-all, stepped, after}
+use Rattle.servers.specs.Server.{
+  Message,
+  ask-vote,
+  vote,
+  append,
+  appended,
+  Event,
+  timeout,
+  request,
+  comes,
+  restart,
+  garbled,
+  Limits,
+  State,
+  last-of-all,
+  in-a-row,
+  clients-there,
+  all-short-entries,
+  terms-below,
+  short,
+  heard,
+  good-message,
+  good-fields,
+  out-of-row,
+  settles,
+  dues,
+  turned-by,
+  turned,
+  first-step,
+  ends-there,
+  event-number,
+  after-all,
+  stepped,
+  after,
+}
 use Rattle.servers.specs.Promise.{fine, all-fine, fine-message, readable}
 use Rattle.texts.specs.Words.{word}
-use Rattle.memory.specs.Region.{Lawful}
 use Rattle.memory.specs.Fits.{Fits}
 use Rattle.memory.specs.Program.{region-all, done-from, region-after}
 use Rattle.memory.proofs.Tests.{bool-by, pick-by}
@@ -41,7 +72,7 @@ fits-heard l s r h (append t i u es c) hh g p o f =
     let all = and-parts (all-fine es) (ltb c word) (rest .1) in
     let row = and-parts (in-a-row i es) (leb (i + length es) (l .room)) (in-row (in-a-row i es && leb (i + length es) (l .room)) o) in
     fits-appends l s r h t i u es c hh (leb-true t last-of-all (numbers .0)) (leb-true c (l .room) (backs .1)) (row .0)
-        (leb-true (i + length es) (l .room) (row .1)) (good-entries l es (entries .0) (entries .1) (backs .0) (all .0)) f
+    (leb-true (i + length es) (l .room) (row .1)) (good-entries l es (entries .0) (entries .1) (backs .0) (all .0)) f
   where
     in-row : (b : Bool) → _≡_ {A = ℕ} (pick b 0 3) 0 → b ≡ true
     in-row true e = refl
@@ -55,7 +86,7 @@ fits-first : (l : Limits) (s : State) (r : List ℕ) (e : Event) → l .me < l .
     → turned-by l s e ≡ 0 → Fits l s r → Fits l (first-step l s e) r
 fits-first l s r timeout m p g o f =
     pick-by (λ (y : State). Fits l y r) (eqb (s .kind) 2) _ _ (λ q. f)
-        (λ q. fits-wants l s r m (ltb-true (s .term) last-of-all (by (eqb (s .kind) 2) (ltb (s .term) last-of-all) q o)) f)
+    (λ q. fits-wants l s r m (ltb-true (s .term) last-of-all (by (eqb (s .kind) 2) (ltb (s .term) last-of-all) q o)) f)
   where
     by : (a b : Bool) → a ≡ false → _≡_ {A = ℕ} (pick (a || b) 0 5) 0 → b ≡ true
     by true b e h = absurd (both-ways true e refl)
@@ -66,10 +97,10 @@ fits-first l s r (request c k x) m p g o f =
     let reads = and-parts (ltb c word) (ltb k word && fine x) p in
     let rest = and-parts (ltb k word) (fine x) (reads .1) in
     pick-by (λ (y : State). Fits l y r) (eqb (s .kind) 2) _ _
-        (λ q. fits-request l s r c k x m (ltb-true c (l .clients) (fields .0)) (ltb-true k word (rest .0))
-            (good-command x (fields .1) (rest .1))
-            (leb-false (l .room) (length (s .log)) (by (eqb (s .kind) 2) (leb (l .room) (length (s .log))) q o)) f)
-        (λ q. f)
+    (λ q. fits-request l s r c k x m (ltb-true c (l .clients) (fields .0)) (ltb-true k word (rest .0))
+    (good-command x (fields .1) (rest .1))
+    (leb-false (l .room) (length (s .log)) (by (eqb (s .kind) 2) (leb (l .room) (length (s .log))) q o)) f)
+    (λ q. f)
   where
     by : (a b : Bool) → a ≡ true → _≡_ {A = ℕ} (pick (a && b) 4 0) 0 → b ≡ false
     by false b e h = absurd (both-ways false refl e)
@@ -88,17 +119,17 @@ not-turned : (b : Bool) (x : ℕ) → pick b x 2 ≡ 0 → (b ≡ true) × (x �
 not-turned true x e = (refl, e)
 not-turned false x e = absurd (omega arith)
 
-pub fits-after : Lawful → (l : Limits) (s : State) (r : List ℕ) (e : Event) → l .me < l .servers → readable e ≡ true
+pub fits-after : (l : Limits) (s : State) (r : List ℕ) (e : Event) → l .me < l .servers → readable e ≡ true
     → Fits l s r → Fits l (after l s e) (region-after l s e r)
-fits-after law l s r e m p f =
+fits-after l s r e m p f =
     let there : Bool = eqb (event-number e) 255 || (l .events-can) (event-number e) in
     let did : State = done-from l s e in
     let done : List ℕ = region-all did (dues did) r in
     bool-by (λ b. Fits l (pick b (stepped l s e) s) (pick b (pick (ends-there e) r done) r)) (eqb (turned l s e) 0)
-        (λ q. let o = not-turned (there && good-fields l e) (turned-by l s e) (eqb-true (turned l s e) 0 q) in
-            let g = and-parts there (good-fields l e) (o .0) in
-            let first = fits-first l s r e m p (g .1) (o .1) f in
-            let sent = fits-sent l (settles l (first-step l s e)) r (fits-settles l (first-step l s e) r first) in
-            bool-by (λ b. Fits l (pick b (first-step l s e) (after-all l (first-step l s e))) (pick b r done)) (ends-there e)
-                (λ z. first) (λ z. fits-finished l did r law sent))
-        (λ q. f)
+    (λ q. let o = not-turned (there && good-fields l e) (turned-by l s e) (eqb-true (turned l s e) 0 q) in
+    let g = and-parts there (good-fields l e) (o .0) in
+    let first = fits-first l s r e m p (g .1) (o .1) f in
+    let sent = fits-sent l (settles l (first-step l s e)) r (fits-settles l (first-step l s e) r first) in
+    bool-by (λ b. Fits l (pick b (first-step l s e) (after-all l (first-step l s e))) (pick b r done)) (ends-there e)
+    (λ z. first) (λ z. fits-finished l did r sent))
+    (λ q. f)

@@ -66,11 +66,13 @@ good-entries l (e ∷ es) a b c d =
     let fines = and-parts (whose && numbers) ((ltb (e .term) word && fine (e .command)) && all-fine es) d in
     let number = and-parts (ltb (e .id) word) (ltb (e .index) word) (and-parts whose numbers (fines .0) .1) in
     let rest = and-parts (ltb (e .term) word && fine (e .command)) (all-fine es) (fines .1) in
-    let command = and-parts (ltb (e .term) word) (fine (e .command)) (rest .0) in
-    (record {
-      at = ltb-true (e .at) (l .servers) (who .1);
-      client = ltb-true (e .client) (l .clients) (who .0);
-      id = ltb-true (e .id) word (number .0);
-      term = leb-true (e .term) last-of-all (terms .0);
-      command = good-command (e .command) (shorts .0) (command .1);
-    }, good-entries l es (there .1) (shorts .1) (terms .1) (rest .1))
+    let command = and-parts (ltb (e .term) word) (fine (e .command)) (rest .0) in (
+      record {
+        at = ltb-true (e .at) (l .servers) (who .1);
+        client = ltb-true (e .client) (l .clients) (who .0);
+        id = ltb-true (e .id) word (number .0);
+        term = leb-true (e .term) last-of-all (terms .0);
+        command = good-command (e .command) (shorts .0) (command .1);
+      },
+      good-entries l es (there .1) (shorts .1) (terms .1) (rest .1),
+    )

@@ -9,4 +9,5 @@ pub mod Election
 pub mod Replication
 pub mod Doing
 pub mod Events
+pub mod Size
 pub mod Program

@@ -12,7 +12,19 @@ use Rattle.std.proofs.shelf.Lists.{append-assoc, drop-at, take-at, take-all, le
 use Rattle.servers.specs.Store.{Reply}
 use Rattle.servers.specs.Server.{Cached}
 use Rattle.texts.specs.Words.{All, word, perhaps-words, perhaps-in}
-use Rattle.memory.specs.Words.{option-word, option-in, bit, bits-of, bools, cached-words, cached-in, cache-words, cache-in, Good-cached, One-below}
+use Rattle.memory.specs.Words.{
+  option-word,
+  option-in,
+  bit,
+  bits-of,
+  bools,
+  cached-words,
+  cached-in,
+  cache-words,
+  cache-in,
+  Good-cached,
+  One-below,
+}
 use Rattle.memory.proofs.Each.{Word, all-append}
 use Rattle.texts.proofs.Cells.{length-perhaps-words, perhaps-back, perhaps-fits}
 
@@ -116,12 +128,16 @@ pub cache-low : (cs : List Cached) → All Good-cached cs → All Word (cache-wo
 unfolding cache-words cached-words
 cache-low [] g = tt
 cache-low (c ∷ cs) g =
-    all-append Word (cached-words c) (cache-words cs)
-        (bit-low (c .there), (g .0 .id,
-            all-append Word (perhaps-words 32 (c .reply .now)) _
-                (perhaps-fits 32 (c .reply .now) (g .0 .now) (omega arith))
-                (perhaps-fits 32 (c .reply .old) (g .0 .old) (omega arith))))
-        (cache-low cs (g .1))
+    all-append Word (cached-words c) (cache-words cs) (
+      bit-low (c .there),
+      (
+        g .0 .id,
+        all-append Word (perhaps-words 32 (c .reply .now)) _
+            (perhaps-fits 32 (c .reply .now) (g .0 .now) (omega arith))
+            (perhaps-fits 32 (c .reply .old) (g .0 .old) (omega arith)),
+      ),
+    )
+    (cache-low cs (g .1))
 
 -- unused words, and match indices
 pub zeros-low : (n : ℕ) → All Word (replicate n 0)

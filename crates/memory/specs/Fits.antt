@@ -5,19 +5,16 @@ use mathlib.Core.List.{List, [], _∷_}
 use mathlib.Core.Path.{_≡_}
 use Prim.Native.Nat.{ℕ, _+_, _≤_, _<_}
 use lib.ListN.{length}
-use Rattle.servers.specs.Store.{Store, Item}
+use Rattle.servers.specs.Store.{Store}
 use Rattle.servers.specs.Server.{Entry, Cached, Limits, State, last-of-all}
-use Rattle.texts.specs.Words.{All, Text}
+use Rattle.texts.specs.Words.{All}
 use Rattle.log.specs.Rows.{Good-entry, Row}
 use Rattle.memory.specs.Words.{Good-cached, One-below}
-use Rattle.memory.specs.Region.{items-of, Region-ok}
+use Rattle.store.specs.Region.{items-of, Good-item, Region-ok}
 
 -- an entry that a row of this server's log can hold
 abbrev pub Entry-fits : Limits → Entry → Type 0
 Entry-fits l = Good-entry (l .servers) (l .clients) last-of-all
-
-abbrev pub Good-item : Item → Type 0
-Good-item x = Text 64 (x .key) × Text 256 (x .value)
 
 -- term, vote, leader, role
 pub record Head (l : Limits) (t : ℕ) (v d : List ℕ) (k : ℕ) : Type 0 where

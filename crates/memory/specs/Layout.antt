@@ -17,7 +17,7 @@ use lib.Dec.{eqb}
 use lib.ListN.{length, getD, take, drop}
 use Rattle.servers.specs.Server.{Limits, State}
 use Rattle.log.specs.Rows.{log-region, log-in}
-use Rattle.memory.specs.Region.{items-of}
+use Rattle.store.specs.Region.{items-of}
 use Rattle.memory.specs.Words.{option-word, option-in, bit, bits-of, bools, cache-words, cache-in}
 
 -- what layout this is: the bytes `Kilvonz`, then the version 1

@@ -1,4 +1,3 @@
-pub mod Region
 pub mod Words
 pub mod Layout
 pub mod Fits

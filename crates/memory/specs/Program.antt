@@ -6,11 +6,27 @@ use mathlib.Core.List.{List, [], _∷_}
 use Prim.Native.Nat.{ℕ, _<_}
 use lib.Dec.{eqb}
 use Rattle.servers.specs.Store.{pick}
-use Rattle.servers.specs.Server.{Entry, Event, Answer, Limits, State, new-server, is-new, do-one, dues, settles, sent-now,
-    first-step, turned, ends-there, after, answer}
+use Rattle.servers.specs.Server.{
+  Entry,
+  Event,
+  Answer,
+  Limits,
+  State,
+  new-server,
+  is-new,
+  do-one,
+  dues,
+  settles,
+  sent-now,
+  first-step,
+  turned,
+  ends-there,
+  after,
+  answer,
+}
 use Rattle.servers.specs.World.{Program}
 use Rattle.servers.specs.Promise.{readable, Right, Refusal-keeps, Enough-memory, As-if-one, thin}
-use Rattle.memory.specs.Region.{empty-region, region-do, Lawful}
+use Rattle.store.specs.Region.{empty-region, region-do}
 use Rattle.memory.specs.Layout.{memory-of, limits-in, state-in, region-in}
 use Rattle.memory.specs.Fits.{Fits}
 
@@ -50,20 +66,26 @@ server = program serves
 
 -- what is promised, for any choice of the events
 abbrev pub Each-right : Type 0
-Each-right = Lawful → (can : ℕ → Bool) → Right can (program can)
+Each-right = (can : ℕ → Bool) → Right can (program can)
 
 abbrev pub Each-keeps : Type 0
-Each-keeps = Lawful → (can : ℕ → Bool) → Refusal-keeps can (program can)
+Each-keeps = (can : ℕ → Bool) → Refusal-keeps can (program can)
 
 abbrev pub Each-enough : Type 0
-Each-enough = Lawful → (can : ℕ → Bool) → Enough-memory can (program can)
+Each-enough = (can : ℕ → Bool) → Enough-memory can (program can)
 
 -- every readable event leads from what fits to what fits
 abbrev pub Fits-on : Type 0
 Fits-on =
-    Lawful → (l : Limits) (s : State) (r : List ℕ) (e : Event) → l .me < l .servers → readable e ≡ true
+    (l : Limits) (s : State) (r : List ℕ) (e : Event) → l .me < l .servers → readable e ≡ true
     → Fits l s r → Fits l (after l s e) (region-after l s e r)
 
--- and of the server: that its clients can't tell it from one. Proved where the servers' agreement is
+-- and of the server that runs
+pub record Server-stands : Type 0 where
+  pub right : Right serves server
+  pub keeps : Refusal-keeps serves server
+  pub enough : Enough-memory serves server
+
+-- its clients can't tell it from one: proved where the servers' agreement is
 abbrev pub Server-as-if-one : Type 0
 Server-as-if-one = As-if-one serves server

@@ -1,6 +1,6 @@
 // A server's memory: words that are a function of limits, state and the store's region, and what is promised of the program
 // over them. No code runs here; the functions carry theorems, so that the gate asks for them.
-ghost use Rattle.memory.specs.Program.{Each-right, Each-keeps, Each-enough, Fits-on};
+ghost use Rattle.memory.specs.Program.{Each-right, Each-keeps, Each-enough, Fits-on, Server-stands};
 
 // The program does what the definitions say, after any readable events, whatever kinds of event it takes.
 pub fn right_stands() -> u8
@@ -26,6 +26,13 @@ pub fn memory_stands() -> u8
 // What the code relies on between events is kept by every readable event.
 pub fn fits_stands() -> u8
     ensures { λ _. ⌜ Fits-on ⌝ }
+{
+    0
+}
+
+// All three of the server that runs.
+pub fn server_stands() -> u8
+    ensures { λ _. ⌜ Server-stands ⌝ }
 {
     0
 }

@@ -10,7 +10,7 @@ use Rattle.memory.specs.Layout.{memory-of, region-in, servers-in, clients-in, r
 use Rattle.memory.specs.Fits.{Bounded, Mid, Fits}
 use Rattle.memory.specs.Program.{serves, region-after, called}
 use Rattle.memory.proofs.Back.{state-back, region-back}
-use Rattle.memory.proofs.Program.{length-memory}
+use Rattle.memory.proofs.Size.{length-memory}
 use Rattle.state.specs.Held.{limits-of, state-of, Held, Turns, Becomes}
 
 -- the memory of what fits is held

@@ -8,8 +8,21 @@ use lib.Bits.{bitOr}
 use lib.ListN.{length, getD, set, take, drop, replicate}
 use native.Mathlib.Omega.{arith}
 use borrow.Rule.Slice.PartMut.{putMid}
-use Rattle.std.proofs.shelf.Lists.{append-assoc, drop-drop, drop-at, length-take-le, length-drop, length-map, getD-drop, getD-take, getD-map,
-    map-set, set-append-left, set-append-right, replicate-append-replicate}
+use Rattle.std.proofs.shelf.Lists.{
+  append-assoc,
+  drop-drop,
+  drop-at,
+  length-take-le,
+  length-drop,
+  length-map,
+  getD-drop,
+  getD-take,
+  getD-map,
+  map-set,
+  set-append-left,
+  set-append-right,
+  replicate-append-replicate,
+}
 use Rattle.servers.specs.Store.{pick}
 use Rattle.servers.specs.Server.{Limits, State, nth, set-at, many, last-index, next-of, next-for, with-next, with-match}
 use Rattle.log.specs.Rows.{log-region}
@@ -87,9 +100,9 @@ write-next l s r h n k =
     let x = length-map (s .nexts) option-word in
     set-front 14 (memory-of l s r) h (n + 1) (omega arith)
     ∙ ap (λ (z : List ℕ). take 14 (memory-of l s r) ++ z)
-        (set-append-left (map option-word (s .nexts)) (s .matches ++ tail l s r) h (n + 1) (omega arith)
-        ∙ ap (λ (z : List ℕ). z ++ (s .matches ++ tail l s r))
-            (sym (map-set option-word (s .nexts) h (n ∷ [])) ∙ ap (map option-word) (sym (set-at-is (s .nexts) h (n ∷ [])))))
+    (set-append-left (map option-word (s .nexts)) (s .matches ++ tail l s r) h (n + 1) (omega arith)
+    ∙ ap (λ (z : List ℕ). z ++ (s .matches ++ tail l s r))
+    (sym (map-set option-word (s .nexts) h (n ∷ [])) ∙ ap (map option-word) (sym (set-at-is (s .nexts) h (n ∷ [])))))
 
 write-match : (l : Limits) (s : State) (r : List ℕ) (n h v : ℕ) → length (s .nexts) ≡ n → h < length (s .matches)
     → set (memory-of l s r) (14 + n + h) v ≡ memory-of l (with-matches (set-at (s .matches) h v) s) r
@@ -100,10 +113,10 @@ write-match l s r n h v e k =
     ap (λ (z : ℕ). set (memory-of l s r) z v) j
     ∙ (set-front 14 (memory-of l s r) (n + h) v (omega arith)
     ∙ ap (λ (z : List ℕ). take 14 (memory-of l s r) ++ z)
-        (set-append-right (map option-word (s .nexts)) (s .matches ++ tail l s r) n (n + h) v (x ∙ e) (omega arith)
-        ∙ ap (λ (z : List ℕ). map option-word (s .nexts) ++ z)
-            (rw i (set-append-left (s .matches) (tail l s r) h v k
-            ∙ ap (λ (z : List ℕ). z ++ tail l s r) (sym (set-at-is (s .matches) h v))))))
+    (set-append-right (map option-word (s .nexts)) (s .matches ++ tail l s r) n (n + h) v (x ∙ e) (omega arith)
+    ∙ ap (λ (z : List ℕ). map option-word (s .nexts) ++ z)
+    (rw i (set-append-left (s .matches) (tail l s r) h v k
+    ∙ ap (λ (z : List ℕ). z ++ tail l s r) (sym (set-at-is (s .matches) h v))))))
 
 pub next-written : (m : List ℕ) (h n : ℕ) → Held m → h < servers-in m → n ≤ room-in m + 1
     → Becomes m (set m (14 + h) (n + 1)) (with-next h n (state-of m))
@@ -111,9 +124,9 @@ next-written m h n k l b =
     let f = k .fits in
     let z = f .2 .next-long in
     becomes m (set m (14 + h) (n + 1)) (with-next h n (state-of m)) k
-        (ap (λ (x : List ℕ). set x (14 + h) (n + 1)) (k .is)
-        ∙ write-next (limits-of m) (state-of m) (region-in m) h n (omega arith))
-        (f .0, f .1, known-next (limits-of m) (state-of m .nexts) (state-of m .matches) (state-of m .votes) h n b (f .2), f .3)
+    (ap (λ (x : List ℕ). set x (14 + h) (n + 1)) (k .is)
+    ∙ write-next (limits-of m) (state-of m) (region-in m) h n (omega arith))
+    (f .0, f .1, known-next (limits-of m) (state-of m .nexts) (state-of m .matches) (state-of m .votes) h n b (f .2), f .3)
 
 pub match-written : (m : List ℕ) (h i : ℕ) → Held m → h < servers-in m → i ≤ room-in m
     → Becomes m (set m (14 + servers-in m + h) i) (with-matches (set-at (state-of m .matches) h i) (state-of m))
@@ -121,9 +134,9 @@ match-written m h i k l b =
     let f = k .fits in
     let z = f .2 .match-long in
     becomes m (set m (14 + servers-in m + h) i) (with-matches (set-at (state-of m .matches) h i) (state-of m)) k
-        (ap (λ (x : List ℕ). set x (14 + servers-in m + h) i) (k .is)
-        ∙ write-match (limits-of m) (state-of m) (region-in m) (servers-in m) h i (f .2 .next-long) (omega arith))
-        (f .0, f .1, known-match (limits-of m) _ (state-of m .matches) (state-of m .votes) h i b (f .2), f .3)
+    (ap (λ (x : List ℕ). set x (14 + servers-in m + h) i) (k .is)
+    ∙ write-match (limits-of m) (state-of m) (region-in m) (servers-in m) h i (f .2 .next-long) (omega arith))
+    (f .0, f .1, known-match (limits-of m) _ (state-of m .matches) (state-of m .votes) h i b (f .2), f .3)
 
 -- next and match index, all set back
 nexts-zero : (n : ℕ) → map option-word (many n []) ≡ replicate n 0
@@ -143,9 +156,11 @@ write-none l s r ys n k e q a b y =
     let t : List ℕ = tail l s r in
     let w : 2 * n ≡ n + n = omega arith in
     let d : drop k (rest-of l s r) ≡ t =
-        rw (q, w, ← drop-drop n n (rest-of l s r), drop-at (map option-word (s .nexts)) (s .matches ++ t) n (x ∙ a)) (drop-at (s .matches) t n b) in
+    rw (q, w, ← drop-drop n n (rest-of l s r), drop-at (map option-word (s .nexts)) (s .matches ++ t) n (x ∙ a))
+    (drop-at (s .matches) t n b) in
     let z : ys ++ t ≡ map option-word (many n []) ++ (many n 0 ++ t) =
-        rw (y, q, w, nexts-zero n, matches-zero n, ← append-assoc (replicate n 0) (replicate n 0) t, replicate-append-replicate {A = ℕ} n n 0) refl in
+    rw (y, q, w, nexts-zero n, matches-zero n, ← append-assoc (replicate n 0) (replicate n 0) t)
+    (ap (λ (u : List ℕ). u ++ t) (sym (replicate-append-replicate {A = ℕ} n n 0))) in
     ap (λ (u : List ℕ). take 14 (memory-of l s r) ++ (ys ++ u)) d
     ∙ (ap (λ (u : List ℕ). take 14 (memory-of l s r) ++ u) z
     ∙ ap (λ (i : ℕ). take 14 (memory-of l s r) ++ (map option-word (many i []) ++ (many i 0 ++ t))) e)
@@ -155,9 +170,9 @@ pub none-written : (m ys : List ℕ) (k : ℕ) → Held m → k ≡ 2 * servers-
 none-written m ys k h e y =
     let f = h .fits in
     becomes m (putMid 14 k m ys) (forgot (limits-of m) (state-of m)) h
-        (ap (λ (x : List ℕ). putMid 14 k x ys) (h .is)
-        ∙ write-none (limits-of m) (state-of m) (region-in m) ys (servers-in m) k refl e (f .2 .next-long) (f .2 .match-long) y)
-        (f .0, f .1, none-known (limits-of m) (state-of m .votes) (f .2 .votes), f .3)
+    (ap (λ (x : List ℕ). putMid 14 k x ys) (h .is)
+    ∙ write-none (limits-of m) (state-of m) (region-in m) ys (servers-in m) k refl e (f .2 .next-long) (f .2 .match-long) y)
+    (f .0, f .1, none-known (limits-of m) (state-of m .votes) (f .2 .votes), f .3)
 
 -- votes
 pub votes-word : (m : List ℕ) → Held m → getD m 12 0 ≡ bits-of (state-of m .votes)
@@ -171,8 +186,8 @@ ballot-written m h v k l e =
     let vs : List Bool = state-of m .votes in
     let w : v ≡ bits-of (set-at vs h true) = e ∙ (ap (λ (x : ℕ). bitOr x (2 ^ h)) (votes-word m k) ∙ bits-or vs h (omega arith)) in
     becomes m (set m 12 v) (with-votes (set-at vs h true) (state-of m)) k
-        (ap (λ (x : ℕ). set m 12 x) w ∙ by (limits-of m) (state-of m) (region-in m) m (k .is))
-        (f .0, f .1, known-votes (limits-of m) _ _ vs _ (length-set-at vs h true ∙ z) (f .2), f .3)
+    (ap (λ (x : ℕ). set m 12 x) w ∙ by (limits-of m) (state-of m) (region-in m) m (k .is))
+    (f .0, f .1, known-votes (limits-of m) _ _ vs _ (length-set-at vs h true ∙ z) (f .2), f .3)
   where
     by : (l : Limits) (s : State) (r m : List ℕ) → m ≡ memory-of l s r
         → set m 12 (bits-of (set-at (s .votes) h true)) ≡ memory-of l (with-votes (set-at (s .votes) h true) s) r

@@ -12,14 +12,25 @@ use Rattle.servers.specs.Server.{Entry, Cached, Limits, State, set-at, no-cache
 use Rattle.texts.specs.Words.{All}
 use Rattle.log.specs.Rows.{Row, log-region}
 use Rattle.memory.specs.Words.{option-word, cached-words, cached-in, cache-words, cache-in, Good-cached}
-use Rattle.memory.specs.Region.{items-of, Region-ok}
-use Rattle.memory.specs.Layout.{rest-of, memory-of, servers-in, clients-in, room-in, log-at, cache-at, store-at, log-part, region-in, state-in}
-use Rattle.memory.specs.Fits.{Entry-fits, Good-item, Head, Logged, Known, Kept, Mid, Fits}
+use Rattle.store.specs.Region.{items-of, Good-item, Region-ok}
+use Rattle.memory.specs.Layout.{
+  rest-of,
+  memory-of,
+  servers-in,
+  clients-in,
+  room-in,
+  log-at,
+  cache-at,
+  store-at,
+  log-part,
+  region-in,
+}
+use Rattle.memory.specs.Fits.{Entry-fits, Head, Logged, Known, Kept, Mid, Fits}
 use Rattle.log.proofs.Rows.{length-region}
 use Rattle.log.proofs.Regions.{put-part}
 use Rattle.memory.proofs.Back.{log-back}
 use Rattle.memory.proofs.Parts.{length-cached, length-cache-words}
-use Rattle.memory.proofs.Program.{length-memory}
+use Rattle.memory.proofs.Size.{length-memory}
 use Rattle.state.specs.Held.{limits-of, state-of, Held, Turns, Becomes}
 use Rattle.state.proofs.Laws.{turns, becomes}
 
@@ -54,15 +65,15 @@ put-log l n s r ys es k at size f p q y e =
     let d = f .3 .cache-long in
     let long : length front ≡ at = omega arith in
     let shape : memory-of l s r ≡ front ++ (old ++ r) =
-        ap (λ (z : List ℕ). head ++ z) (spread (map option-word (s .nexts)) (s .matches) (cache-words (s .cache)) (old ++ r)) in
+    ap (λ (z : List ℕ). head ++ z) (spread (map option-word (s .nexts)) (s .matches) (cache-words (s .cache)) (old ++ r)) in
     let put : putMid at size (memory-of l s r) ys ≡ front ++ (ys ++ r) =
-        ap (λ (z : List ℕ). putMid at size z ys) shape
-        ∙ put-part at size front old r ys long (length-region (l .room) (s .log) (f .1 .room) ∙ sym q) in
+    ap (λ (z : List ℕ). putMid at size z ys) shape
+    ∙ put-part at size front old r ys long (length-region (l .room) (s .log) (f .1 .room) ∙ sym q) in
     ap (λ (z : List ℕ). set z 10 k) put
     ∙ (ap (λ (z : List ℕ). set (front ++ (z ++ r)) 10 k) y
     ∙ (ap (λ (z : ℕ). set head 10 z ++ ((peers l s ++ cache-words (s .cache)) ++ (log-region (l .room) es ++ r))) e
     ∙ ap (λ (z : List ℕ). set head 10 (length es) ++ z)
-        (sym (spread (map option-word (s .nexts)) (s .matches) (cache-words (s .cache)) (log-region (l .room) es ++ r)))))
+    (sym (spread (map option-word (s .nexts)) (s .matches) (cache-words (s .cache)) (log-region (l .room) es ++ r)))))
   where
     spread : (a b c z : List ℕ) → a ++ (b ++ (c ++ z)) ≡ ((a ++ b) ++ c) ++ z
     spread a b c z = simp append-assoc
@@ -74,6 +85,6 @@ log-written m ys es k at size h p q y e row good room =
     let f = h .fits in
     let s : State = state-of m in
     becomes m (set (putMid at size m ys) 10 k) (with-log es (s .commit) s) h
-        (ap (λ (z : List ℕ). set (putMid at size z ys) 10 k) (h .is)
-        ∙ put-log (limits-of m) (s .applied) s (region-in m) ys es k at size f p q y e)
-        (f .0, record { row = row; entries = good; room = room; commit = f .1 .commit; applied = f .1 .applied }, f .2, f .3)
+    (ap (λ (z : List ℕ). set (putMid at size z ys) 10 k) (h .is)
+    ∙ put-log (limits-of m) (s .applied) s (region-in m) ys es k at size f p q y e)
+    (f .0, record { row = row; entries = good; room = room; commit = f .1 .commit; applied = f .1 .applied }, f .2, f .3)

@@ -4,13 +4,18 @@ use mathlib.Core.Path.{_≡_}
 use mathlib.Core.List.{List}
 use Prim.Native.Nat.{ℕ}
 use Rattle.servers.specs.Server.{Limits, State}
-use Rattle.memory.specs.Layout.{memory-of, limits-in, state-in, region-in}
+use Rattle.servers.specs.declared.limits.Limits as code
+use Rattle.memory.specs.Layout.{memory-of, limits-in, state-in, region-in, servers-in, me-in, clients-in, room-in}
 use Rattle.memory.specs.Fits.{Fits, Bounded}
 use Rattle.memory.specs.Program.{serves}
 
 -- the limits of the server that runs, and its state
 abbrev pub limits-of : List ℕ → Limits
 limits-of m = limits-in serves m
+
+-- as the code has them
+abbrev pub limits-held : List ℕ → code.Limits
+limits-held m = record { servers = servers-in m; me = me-in m; clients = clients-in m; room = room-in m }
 
 abbrev pub state-of : List ℕ → State
 state-of m = state-in m

@@ -6,21 +6,43 @@ ghost use mathlib.Core.List.{List, [], _∷_};
 ghost use Prim.Native.Nat.{ℕ, _+_, _-_, _*_, _<_, _≤_};
 ghost use lib.ListN.{length, getD, set};
 ghost use lib.Dec.{ltb, leb, eqb};
-ghost use Rattle.servers.specs.Server.{State, with-term, advanced, with-voted, with-commit, with-applied, with-send, following, wants,
-    empty, may-vote, last-index, last-of-all};
+ghost use Rattle.servers.specs.Server.{
+  State,
+  with-term,
+  advanced,
+  with-voted,
+  with-commit,
+  with-applied,
+  with-send,
+  following,
+  wants,
+  empty,
+  may-vote,
+  last-index,
+  last-of-all,
+};
 ghost use Rattle.memory.specs.Layout.{servers-in, me-in, room-in};
 ghost use Rattle.state.specs.Held.{Held, Becomes, limits-of, state-of};
 ghost use Rattle.state.specs.States.{with-kind, calmed};
 
 const ME: usize = 2;
+
 const TERM: usize = 5;
+
 const VOTE: usize = 6;
+
 const LEADER: usize = 7;
+
 const COMMIT: usize = 8;
+
 const APPLIED: usize = 9;
+
 const LENGTH: usize = 10;
+
 const ROLE: usize = 11;
+
 const VOTES: usize = 12;
+
 const SEND: usize = 13;
 
 // A server follows, wants to lead, or leads.
@@ -28,7 +50,9 @@ pub struct Role;
 
 impl Role {
     pub const FOLLOWER: u64 = 0;
+
     pub const CANDIDATE: u64 = 1;
+
     pub const LEADER: u64 = 2;
 }
 

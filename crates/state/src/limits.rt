@@ -4,42 +4,38 @@ ghost use Prim.Native.Nat.{ℕ, _+_, _*_, _/_, _^_, _<_, _≤_};
 ghost use lib.Dec.{ltb};
 ghost use lib.ListN.{length, getD};
 ghost use Rattle.memory.specs.Layout.{log-at, store-at, cache-at};
-ghost use Rattle.state.specs.Held.{Held};
-ghost use Rattle.state.specs.Code.{limits-held};
+ghost use Rattle.state.specs.Held.{Held, limits-held};
+use servers::limits::Limits;
 
 // How many words the head has, and where the limits stand in it.
 pub const HEAD: usize = 14;
+
 const SERVERS: usize = 1;
+
 const ME: usize = 2;
+
 const CLIENTS: usize = 3;
+
 const ROOM: usize = 4;
 
-#[derive(Clone, Copy)]
-pub struct Limits {
-    pub servers: u64,
-    pub me: u64,
-    pub clients: u64,
-    pub room: u64,
+pub fn limits(mem: &[u64]) -> Limits
+    requires held { ⌜ Held (now mem) ⌝ }
+    ensures { λ r. ⌜ r ≡ limits-held (now (mem .entry)) ⌝ }
+{
+    Limits {
+        servers: mem[SERVERS],
+        me: mem[ME],
+        clients: mem[CLIENTS],
+        room: mem[ROOM],
+    }
 }
 
-impl Limits {
-    // No term goes beyond this.
-    pub const LAST_TERM: u64 = 1 << 62;
-
-    pub fn of(mem: &[u64]) -> Limits
-        requires held { ⌜ Held (now mem) ⌝ }
-        ensures { λ r. ⌜ r ≡ limits-held (now (mem .entry)) ⌝ }
-    {
-        Limits { servers: mem[SERVERS], me: mem[ME], clients: mem[CLIENTS], room: mem[ROOM] }
-    }
-
-    // Whether so many are more than half.
-    pub fn is_majority(self, many: u32) -> bool
-        requires { ⌜ self .servers ≤ 16 ⌝ }
-        ensures { λ r. ⌜ r ≡ ltb (self .servers / 2) many ⌝ }
-    {
-        ((self.servers / 2) as u32) < many
-    }
+// Whether so many servers are more than half.
+pub fn is_majority(limits: Limits, many: u32) -> bool
+    requires { ⌜ limits .servers ≤ 16 ⌝ }
+    ensures { λ r. ⌜ r ≡ ltb (limits .servers / 2) many ⌝ }
+{
+    limits.majority() as u32 <= many
 }
 
 // Where the clients' sessions, the log and the store begin.

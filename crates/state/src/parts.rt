@@ -4,9 +4,11 @@ ghost use Prim.Native.Nat.{ℕ, _+_, _-_, _*_, _<_, _≤_};
 ghost use lib.ListN.{length, getD, take, drop};
 ghost use Rattle.memory.specs.Layout.{log-part, region-in, room-in};
 ghost use Rattle.state.specs.Held.{Held};
-use crate::limits::{log_at, store_at};
+use crate::limits::log_at;
+use crate::limits::store_at;
 
 const ROOM: usize = 4;
+
 const ROW: usize = 80;
 
 // The rows of the log, with those that it has room for.

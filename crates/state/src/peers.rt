@@ -10,6 +10,7 @@ ghost use Rattle.state.specs.States.{with-matches, forgot};
 use crate::limits::HEAD;
 
 const SERVERS: usize = 1;
+
 const LENGTH: usize = 10;
 
 // The next index for a server; where none is known, the log's last index.

@@ -8,7 +8,8 @@ ghost use Rattle.servers.specs.Server.{State, set-at, won};
 ghost use Rattle.memory.specs.Layout.{servers-in};
 ghost use Rattle.state.specs.Held.{Held, Becomes, limits-of, state-of};
 ghost use Rattle.state.specs.States.{with-votes};
-use crate::limits::Limits;
+use crate::limits::is_majority;
+use crate::limits::limits;
 
 const VOTES: usize = 12;
 
@@ -27,6 +28,6 @@ pub fn has_won(mem: &[u64]) -> bool
     requires held { ⌜ Held (now mem) ⌝ }
     ensures { λ r. ⌜ r ≡ won (limits-of (now (mem .entry))) (state-of (now (mem .entry)) .votes) ⌝ }
 {
-    let limits = Limits::of(mem);
-    limits.is_majority(mem[VOTES].count_ones())
+    let all = limits(mem);
+    is_majority(all, mem[VOTES].count_ones())
 }

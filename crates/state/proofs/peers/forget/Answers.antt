@@ -17,4 +17,4 @@ returns c =
     let k : ℕ = 14 + 2 * servers-in (c .args .mem .now) - 14 in
     let d = length-drop 14 (c .args .mem .now) in
     none-written (c .args .mem .now) (c .clear .last .part) k (c .pre .held) (omega arith)
-        (c .clear .ensures ∙ ap (λ (n : ℕ). replicate n 0) (length-take-le k (drop 14 (c .args .mem .now)) (omega arith)))
+    (c .clear .ensures ∙ ap (λ (n : ℕ). replicate n 0) (length-take-le k (drop 14 (c .args .mem .now)) (omega arith)))

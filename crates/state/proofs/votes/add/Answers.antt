@@ -11,4 +11,4 @@ returns c =
     let few = c .pre .held .good .servers in
     let here = c .pre .here in
     ballot-written (c .args .mem .now) (c .args .h) _ (c .pre .held) (c .pre .here)
-        (ap (bitOr (getD (c .args .mem .now) 12 0)) (one-shl (c .args .h) 64 (omega arith)))
+    (ap (bitOr (getD (c .args .mem .now) 12 0)) (one-shl (c .args .h) 64 (omega arith)))
