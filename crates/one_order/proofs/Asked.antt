@@ -14,14 +14,14 @@ use Rattle.servers.specs.Promise.{readable-world, Good-group, Right, at-server,
 use Rattle.servers.specs.Server.{state, new-server}
 use Rattle.std.proofs.shelf.Tests.{and-parts, false≢true, or-cases, or-left, or-right, eqb-true, ltb-true}
 use Rattle.std.proofs.shelf.Ways.{tells}
-use Rattle.safety.proofs.Moves.{in-either}
-use Rattle.safety.proofs.Events.{pick-passed}
+use Rattle.safety.proofs.Letters.{in-either}
+use Rattle.safety.proofs.Event.{pick-passed}
 use Rattle.one_order.specs.Order.{order, furthest, committed, linearization}
 use Rattle.one_order.proofs.Lists.{All, all-more, all-up-to}
 use Rattle.one_order.proofs.Orders.{order-asked}
 use Rattle.one_order.proofs.Applying.{Clients-below}
 use Rattle.one_order.proofs.Entries.{Carries, carries-more, Brings, after-log, carry-answer}
-use Rattle.one_order.proofs.Moments.{Moment, Was-sent, worlds-by, says-so, each-server}
+use Rattle.safety.proofs.Induction.{Step, Was-sent, worlds-by, answers, each-server}
 
 -- an entry that a client asked for, and the client is one of the group's
 abbrev pub Was-asked : Group → List Happening → Entry → Type 0
@@ -37,7 +37,7 @@ unfolding Happened
 asked-still g h past e o = (o .0, inr (o .1))
 
 -- the entries that an event brings were asked: now, or when the letter was sent that carries them
-brings : (g : Group) (w : World) (i : ℕ) (s : State) (a : Answer) (e : Event) → All-asked g w → Was-sent w i e
+brings : (g : Group) (w : World) (i : ℕ) (s : State) (a : Answer) (e : Event) → All-asked g w → Was-sent i (w .sent) e
     → turned (limits g i) s e ≡ 0 → Brings (Was-asked g (record { at = i; event = e; answer = a } ∷ w .past)) (limits g i) s e
 unfolding Happened
 brings g w i s a timeout o sent q = tt
@@ -56,7 +56,7 @@ module _ (can : ℕ → Bool) (f : Program) (g : Group) (right : Right can f) (g
   unfolding In seen state
   asked-first = record { logs = λ v. tt; letters = λ x h. elim h [ ] }
 
-  asked-next : (w : World) (i : ℕ) (e : Event) → Moment f g w i e → All-asked g w → All-asked g (happens f g w i e)
+  asked-next : (w : World) (i : ℕ) (e : Event) → Step f g w i e → All-asked g w → All-asked g (happens f g w i e)
   asked-next w i e m old =
       let w′ : World = happens f g w i e in
       let s : State = at-server g w i in
@@ -64,17 +64,17 @@ module _ (can : ℕ → Bool) (f : Program) (g : Group) (right : Right can f) (g
       let more = λ (v : ℕ). all-more (Was-asked g (w .past)) (Was-asked g (w′ .past)) still (at-server g w v .log) (old .logs v) in
       let bring = brings g w i s (says-now f g w i e) e old (m .sent) in
       record {
-        logs = each-server can f g right group w i e m (λ v y. All (Was-asked g (w′ .past)) (y .log))
-            (after-log (Was-asked g (w′ .past)) (limits g i) s e (more i) bring) more;
+        logs = each-server f g w i e (λ v y. All (Was-asked g (w′ .past)) (y .log))
+            (after-log (Was-asked g (w′ .past)) (limits g i) s e (more i) bring) (λ v ne. more v);
         letters = λ x h. elim (in-either x (w .sent) (from i (letters (says-now f g w i e))) h) [
           | inl o ↦ carries-more (Was-asked g (w .past)) (Was-asked g (w′ .past)) still (x .letter .message) (old .letters x o)
           | inr o ↦ carry-answer (Was-asked g (w′ .past)) (limits g i) s e (more i) bring x
-              (subst (λ y. In x (from i (letters y))) (says-so can f g right group w i e m) o)
+              (subst (λ y. In x (from i (letters y))) (answers right group w i e m) o)
         ];
       }
 
   pub entries-asked : {w : World} → Lived f g w → readable-world w → All-asked g w
-  entries-asked = worlds-by can f g right group (All-asked g) asked-first asked-next
+  entries-asked = worlds-by f g (All-asked g) asked-first asked-next
 
   module _ {w : World} (lived : Lived f g w) (fine : readable-world w) where
     -- every entry's client has a session

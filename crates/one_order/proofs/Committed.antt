@@ -14,12 +14,12 @@ use Rattle.servers.specs.Promise.{readable-world, Good-group, Right, at-server}
 use Rattle.std.proofs.shelf.Tests.{cases-lt, cases-eq, ltb-true, ltb-false}
 use Rattle.std.proofs.shelf.Ways.{tells}
 use Rattle.safety.proofs.Tests.{bool-by, pick-by}
-use Rattle.safety.proofs.Logs.{Row, row-up-to, up-to-up-to, above-up-to}
+use Rattle.safety.proofs.Logs.{Contiguous, contiguous-up-to, up-to-up-to, above-up-to}
 use Rattle.one_order.specs.Order.{order, furthest, committed, linearization, Extends, Later}
 use Rattle.one_order.proofs.Sequences.{extends-same, extends-trans}
 use Rattle.one_order.proofs.Orders.{order-extends}
 use Rattle.one_order.proofs.Events.{commit-up}
-use Rattle.one_order.proofs.Moments.{Moment, worlds-by, each-server}
+use Rattle.safety.proofs.Induction.{Step, worlds-by, each-server}
 use Rattle.one_order.proofs.Agreement.{log-in-a-row, agree-now, agree-next}
 
 furthest-below : (st : ℕ → State) (n : ℕ) → furthest st (suc n) < suc n
@@ -63,7 +63,7 @@ module _ (can : ℕ → Bool) (f : Program) (g : Group) (right : Right can f) (g
     committed-on-top v n low h =
         let a : State = at-server g w (ahead w) in
         let far = furthest-most (at-server g w) (g .servers) v low in
-        let row = row-up-to (a .commit) (a .log) (log-in-a-row can f g right group lived fine (ahead w)) in
+        let row = contiguous-up-to (a .commit) (a .log) (log-in-a-row can f g right group lived fine (ahead w)) in
         let same : up-to n (committed g w) ≡ up-to n (at-server g w v .log) =
         up-to-up-to n (a .commit) (a .log) (omega arith) ∙ agree-now can f g right group lived fine (ahead w) v n (omega arith) h in
         sym (above-up-to n (committed g w) row) ∙ ap (λ y. above n (committed g w) ++ y) same
@@ -77,10 +77,11 @@ module _ (can : ℕ → Bool) (f : Program) (g : Group) (right : Right can f) (g
 
   -- ONE HAPPENING MORE
 
-  module _ (w : World) (i : ℕ) (e : Event) (m : Moment f g w i e) where
+  module _ (w : World) (i : ℕ) (e : Event) (m : Step f g w i e) where
     -- no commit index falls
     pub commits-up : (v : ℕ) → at-server g w v .commit ≤ at-server g (happens f g w i e) v .commit
-    commits-up = each-server can f g right group w i e m (λ v y. at-server g w v .commit ≤ y .commit) (commit-up (limits g i) (at-server g w i) e) (λ v. omega arith)
+    commits-up = each-server f g w i e (λ v y. at-server g w v .commit ≤ y .commit) (commit-up (limits g i) (at-server g w i) e)
+        (λ v ne. omega arith)
 
     -- what was committed at a server stays in its log
     pub committed-stays : (v n : ℕ) → n ≤ at-server g w v .commit → up-to n (at-server g w v .log) ≡ up-to n (at-server g (happens f g w i e) v .log)
@@ -107,13 +108,13 @@ module _ (can : ℕ → Bool) (f : Program) (g : Group) (right : Right can f) (g
   -- The order of a later world extends that of an earlier one.
   pub only-grows : {w′ : World} → Lived f g w′ → readable-world w′ → (w : World) → Later w w′ → Extends (linearization g w′) (linearization g w)
   only-grows =
-      worlds-by can f g right group (λ w′. (w : World) → Later w w′ → Extends (linearization g w′) (linearization g w)) at-first later
+      worlds-by f g (λ w′. (w : World) → Later w w′ → Extends (linearization g w′) (linearization g w)) at-first later
     where
       at-first : (w : World) → Later w new-world → Extends (linearization g new-world) (linearization g w)
       at-first w ([], q) = same-past w new-world q
       at-first w (h ∷ since, q) = let z : _≡_ {A = ℕ} 0 1 = cc in absurd (omega arith)
 
-      later : (x : World) (i : ℕ) (e : Event) → Moment f g x i e → ((w : World) → Later w x → Extends (linearization g x) (linearization g w))
+      later : (x : World) (i : ℕ) (e : Event) → Step f g x i e → ((w : World) → Later w x → Extends (linearization g x) (linearization g w))
           → (w : World) → Later w (happens f g x i e) → Extends (linearization g (happens f g x i e)) (linearization g w)
       later x i e m old w ([], q) = same-past w (happens f g x i e) q
       later x i e m old w (h ∷ since, q) =

@@ -6,7 +6,6 @@ pub mod Due
 pub mod Steps
 pub mod Events
 pub mod Entries
-pub mod Moments
 pub mod Agreement
 pub mod Committed
 pub mod Asked

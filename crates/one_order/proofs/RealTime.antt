@@ -12,7 +12,7 @@ use Rattle.servers.specs.Promise.{readable-world, Good-group, Right}
 use Rattle.std.proofs.shelf.Tests.{cases-bool, and-parts, false≢true, both-ways, not-true, or-cases, eqb-true}
 use Rattle.one_order.specs.Order.{linearization}
 use Rattle.one_order.proofs.Sequences.{replied-there, new-is-later}
-use Rattle.one_order.proofs.Moments.{World-of, earlier-world}
+use Rattle.safety.proofs.Induction.{World-of, earlier-world}
 use Rattle.one_order.proofs.Committed.{only-grows}
 use Rattle.one_order.proofs.Asked.{linearization-asked, there-asked}
 use Rattle.one_order.proofs.Told.{told-right}
@@ -84,7 +84,7 @@ module _ (can : ℕ → Bool) (f : Program) (g : Group) (right : Right can f) (g
       → there (linearization g w) d j ≡ true → earlier (linearization g w) c k d j ≡ true
   in-real-time {w} lived fine c k d j q t =
       let b = between (w .past) c k d j q in
-      let x = earlier-world can f g right group lived fine (b .since) (b .then) (b .splits) in
+      let x = earlier-world lived fine (b .then) (b .since, b .splits) in
       let old : World = x .world in
       let grown = only-grows can f g right group lived fine old (b .since, b .splits ∙ ap (λ y. b .since ++ y) (sym (x .is))) in
       new-is-later (linearization g w) (linearization g old) c k d j grown
