@@ -59,7 +59,7 @@ module _ (l : Limits) {was : Before} {s : State} {sent : List Sent} (a : Turn (l
           there = rw (w .all) (c .there);
           of-term = c .of-term;
           quorum = quorum-of-matches (λ v. Acked (a .γ) sent v (s .term) n) n (s .matches) (a .mine .matches-size) (c .most)
-              (λ v h. let some = c .some in record { upto = nth 0 (s .matches) v; far = h; ack = w .matches v (omega arith) });
+              (λ v h. let some = c .some in record { upto = nth 0 (s .matches) v; far = h; ack = w .acked v (omega arith) });
         };
         far = omega arith;
         low = omega arith;
@@ -76,9 +76,8 @@ module _ (l : Limits) {was : Before} {s : State} {sent : List Sent} (a : Turn (l
         votes-size = o .votes-size;
         matches-size = o .matches-size;
         ballots = o .ballots;
-        candidate = λ q. absurd (let two : s .kind ≡ 2 = grind (arith, tells) in omega arith);
-        leader = λ q. (let w = o .leader q in
-            record { election = w .election; elected = w .elected; itself = w .itself; all = w .all; matches = w .matches });
+        candidate = o .candidate;
+        leader = o .leader;
         acks = o .acks;
         keeps = o .keeps;
         commit = commit (grind (arith, tells)) (stays-or-moves l s (s .log) (o .log .contiguous) (λ n x h. h));
