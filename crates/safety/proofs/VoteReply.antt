@@ -23,8 +23,8 @@ use Rattle.safety.proofs.Turn.{Before, Turn, change, advance}
 use Rattle.safety.proofs.LeaderLog.{Leads-with, leads}
 
 -- a candidate that has a quorum of votes
-module _ {k me : ℕ} {was : Before} {s : State} {sent : List Sent} (a : Turn k me was s sent) (c : Candidate (a .γ) me (s .term) (s .log) (s .votes))
-    (most : k / 2 < count (s .votes)) where
+module _ {k me : ℕ} {was : Before} {s : State} {sent : List Sent} (a : Turn k me was s sent)
+    (c : Candidate (a .γ) me (s .term) (s .log) (s .votes)) (most : k / 2 < count (s .votes)) where
   its-quorum : Quorum k (Voted-for (a .γ) (s .term) me)
   its-quorum = quorum-of-votes (Voted-for (a .γ) (s .term) me) (s .votes) (a .mine .votes-size) most (c .votes-cast)
 

@@ -60,3 +60,9 @@ Later-leader-completeness =
 unfoldable pub State-machine-safety : Type 0
 State-machine-safety =
     Of-moments (λ a b. (i j n : ℕ) → n ≤ a i .commit → n ≤ b j .commit → up-to n (a i .log) ≡ up-to n (b j .log))
+
+-- NOTHING IS TAKEN BACK: a server's term and commit index never fall, and what it has committed stays in its log
+unfoldable pub Commits-stay : Type 0
+Commits-stay =
+    Of-moments-in-order (λ a b. (i : ℕ) → (a i .term ≤ b i .term) × (a i .commit ≤ b i .commit)
+    × (up-to (a i .commit) (b i .log) ≡ up-to (a i .commit) (a i .log)))
