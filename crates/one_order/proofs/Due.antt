@@ -53,7 +53,7 @@ due-is-above lo hi (e ∷ es) r h = go (cases-lt hi (e .index)) (cases-lt lo (e 
     go (inr p) (inr q) ih = rw (due-none lo hi (e ∷ es) r q, up-to-all hi (e ∷ es) p, above-none lo (e ∷ es) q)
 
 -- what is due stands on top of what is applied
-above-applied : (lo hi : ℕ) (l : List Entry) → Row l → lo ≤ hi → above lo (up-to hi l) ++ up-to lo l ≡ up-to hi l
+pub above-applied : (lo hi : ℕ) (l : List Entry) → Row l → lo ≤ hi → above lo (up-to hi l) ++ up-to lo l ≡ up-to hi l
 above-applied lo hi l r h =
     ap (λ x. above lo (up-to hi l) ++ x) (sym (up-to-up-to lo hi l h)) ∙ above-up-to lo (up-to hi l) (row-up-to hi l r)
 

@@ -17,7 +17,7 @@ use Rattle.safety.proofs.Tests.{bool-by, pick-by}
 use Rattle.safety.proofs.Logs.{Row}
 use Rattle.safety.proofs.Ghosts.{View, view}
 use Rattle.safety.proofs.Events.{all-view, finished-view}
-use Rattle.one_order.specs.Order.{order}
+use Rattle.one_order.specs.Order.{order, applied-order}
 use Rattle.one_order.proofs.Applying.{Machine, machine, Made-by, Clients-below}
 use Rattle.one_order.proofs.Due.{due-applies, due-tells}
 use Rattle.one_order.proofs.Steps.{Core, core, Steady, first-steady, settles-steady}
@@ -25,11 +25,11 @@ use Rattle.one_order.proofs.Steps.{Core, core, Steady, first-steady, settles-s
 -- what is applied is committed, and the machine is that of the log up to there
 pub record Applied (n : ℕ) (s : State) : Type 0 where
   pub low : s .applied ≤ s .commit
-  pub made : Made-by n (machine s) (order (up-to (s .applied) (s .log)))
+  pub made : Made-by n (machine s) (applied-order s)
 
--- what is told is what the order of the log up to the commit index says
+-- what is told is what the order of the applied entries says
 abbrev pub Tells : State → Answer → Type 0
-Tells s a = (x : Said) → Told-by x a → reply-in (order (up-to (s .commit) (s .log))) (x .client) (x .id) ≡ x .reply ∷ []
+Tells s a = (x : Said) → Told-by x a → reply-in (applied-order s) (x .client) (x .id) ≡ x .reply ∷ []
 
 module _ (n : ℕ) (l : Limits) (s : State) (was : Applied n s) where
   -- what an event owes that leads to state y and answer a
@@ -40,7 +40,7 @@ module _ (n : ℕ) (l : Limits) (s : State) (was : Applied n s) where
 
   -- the machine is the old one, so it is that of the log up to the applied index still
   made-still : (y : State) → Steady s (core y) → up-to (s .applied) (y .log) ≡ up-to (s .applied) (s .log)
-      → Made-by n (machine y) (order (up-to (y .applied) (y .log)))
+      → Made-by n (machine y) (applied-order y)
   made-still y st same = rw (st .1, st .2, st .3, same) (was .made)
 
   -- nothing is applied and nobody is told
@@ -63,7 +63,7 @@ module _ (n : ℕ) (l : Limits) (s : State) (was : Applied n s) where
       let old = made-still m st (subst (λ y. up-to (s .applied) y ≡ up-to (s .applied) (s .log)) log same) in
       let top : at-least (m .applied) (m .commit) ≡ m .commit = grind (arith, tells) in (
         record { low = omega arith; made = rw (top, log) (due-applies n m (m .applied) (m .commit) (m .log) row below le old) },
-        λ x t. rw (log, commit) (due-tells n m (m .applied) (m .commit) (m .log) row below le old l x (sub x t)),
+        λ x t. rw (top, log) (due-tells n m (m .applied) (m .commit) (m .log) row below le old l x (sub x t)),
         omega arith,
       )
 
