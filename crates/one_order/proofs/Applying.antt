@@ -14,7 +14,7 @@ use Rattle.servers.specs.World.{Asked, store-after, reply-in, Said-in}
 use Rattle.std.proofs.shelf.Tests.{and-parts, cases-eq, eq-eqb, ne-eqb, eqb-true}
 use Rattle.std.proofs.shelf.Ways.{tells}
 use Rattle.safety.proofs.Tests.{bool-by, pick-by}
-use Rattle.safety.proofs.Moves.{length-many, length-set-at, nth-many}
+use Rattle.safety.proofs.Tables.{length-many, length-set-at, nth-many}
 use Rattle.one_order.specs.Order.{session, new-to, asked-of, order, Extends}
 use Rattle.one_order.proofs.Lists.{All, nth-set-same, nth-set-other}
 use Rattle.one_order.proofs.Sequences.{session-told, reply-stays}

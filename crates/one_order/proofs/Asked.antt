@@ -14,14 +14,15 @@ use Rattle.servers.specs.World.{Sent, In, from, Asked, is-asked, was-asked, Hap
 use Rattle.servers.specs.Promise.{at-server, all-asked}
 use Rattle.std.proofs.shelf.Tests.{and-parts, false≢true, or-cases, or-left, or-right, eqb-true, ltb-true}
 use Rattle.std.proofs.shelf.Ways.{tells}
-use Rattle.safety.proofs.Moves.{in-either}
-use Rattle.safety.proofs.Events.{pick-passed}
+use Rattle.safety.proofs.Letters.{in-either}
+use Rattle.safety.proofs.Event.{pick-passed}
 use Rattle.one_order.specs.Order.{order, furthest, committed, linearization}
 use Rattle.one_order.proofs.Lists.{All, all-more, all-up-to}
 use Rattle.one_order.proofs.Orders.{order-asked}
 use Rattle.one_order.proofs.Applying.{Clients-below}
 use Rattle.one_order.proofs.Entries.{Carries, carries-more, Brings, after-log, carry-answer}
-use Rattle.one_order.proofs.Moments.{Run, Moment, Was-sent, worlds-by, says-so, each-server}
+use Rattle.safety.proofs.Induction.{Was-sent, each-server}
+use Rattle.one_order.proofs.Runs.{Run, Moment, runs-by, says-so}
 
 -- a client of the group asked for this entry's command, by this number
 abbrev pub Was-asked : Group → List Happening → Entry → Type 0
@@ -37,7 +38,7 @@ unfolding Happened
 asked-still g h past e o = (o .0, inr (o .1))
 
 -- the entries that an event brings were asked: just now, or before the letter was sent that carries them
-brings : (g : Group) (w : World) (i : ℕ) (s : State) (a : Answer) (e : Event) → All-asked g w → Was-sent w i e
+brings : (g : Group) (w : World) (i : ℕ) (s : State) (a : Answer) (e : Event) → All-asked g w → Was-sent i (w .sent) e
     → turned (limits g i) s e ≡ 0 → Brings (Was-asked g (record { at = i; event = e; answer = a } ∷ w .past)) (limits g i) s e
 unfolding Happened
 brings g w i s a timeout o sent q = tt
@@ -65,9 +66,9 @@ asked-next {f} {g} w i e m old =
     let Q : Entry → Type 0 = Was-asked g (now ∷ w .past) in
     let still = asked-still g now (w .past) in
     let more = λ (v : ℕ). all-more P Q still (at-server g w v .log) (old .logs v) in
-    let bring = brings g w i s (says-now f g w i e) e old (m .sent) in
+    let bring = brings g w i s (says-now f g w i e) e old (m .step .sent) in
     record {
-      logs = each-server m (λ v y. All Q (y .log)) (after-log Q (limits g i) s e (more i) bring) more;
+      logs = each-server f g w i e (λ v y. All Q (y .log)) (after-log Q (limits g i) s e (more i) bring) (λ v ne. more v);
       letters = λ x h. elim (in-either x (w .sent) (from i (letters (says-now f g w i e))) h) [
         | inl o ↦ carries-more P Q still (x .letter .message) (old .letters x o)
         | inr o ↦ carry-answer Q (limits g i) s e (more i) bring x (subst (λ y. In x (from i (letters y))) (says-so m) o)
@@ -76,7 +77,7 @@ asked-next {f} {g} w i e m old =
 
 -- Every entry was asked.
 pub entries-asked : {f : Program} {g : Group} {w : World} → Run f g w → All-asked g w
-entries-asked {f} {g} = worlds-by (All-asked g) (asked-first g) asked-next
+entries-asked {f} {g} = runs-by (All-asked g) (asked-first g) asked-next
 
 module _ {f : Program} {g : Group} {w : World} (r : Run f g w) where
   -- so every entry's client has a session

@@ -1,25 +1,27 @@
--- What is committed in a world is one log: every server's log, up to its commit index, is the old end of it, and
--- whatever happens only puts entries on top. So the linearization order, which is read off it, only grows.
-use mathlib.Core.Path.{_≡_, refl, sym, ap, subst, _∙_}
-use mathlib.Core.Logic.{_⊎_, inl, inr}
-use mathlib.Core.List.{List, [], _∷_, _++_}
+-- What is committed in a world is one log: every server's log, up to its commit index, is the old end of it, and later worlds
+-- only have entries on top. So the linearization order, which is read off it, only grows.
+use mathlib.Core.Path.{_≡_, sym, ap, subst, _∙_}
+use mathlib.Core.Logic.{inl, inr}
+use mathlib.Core.List.{List, [], _++_}
 use Prim.Native.Nat.{ℕ, zero, suc, _≤_, _<_}
 use native.Mathlib.Omega.{arith}
 use lib.Dec.{ltb}
-use Rattle.servers.specs.Server.{State, Event, up-to, above}
-use Rattle.servers.specs.World.{Program, Group, limits, World, happens}
+use Rattle.servers.specs.Server.{State, state, up-to, above}
+use Rattle.servers.specs.World.{Program, Group, limits, World, seen, happens}
 use Rattle.servers.specs.Promise.{at-server}
 use Rattle.std.proofs.shelf.Tests.{cases-eq, ltb-true, ltb-false}
 use Rattle.safety.proofs.Tests.{pick-by}
-use Rattle.safety.proofs.Logs.{Row, row-up-to, up-to-up-to, above-up-to}
+use Rattle.safety.proofs.Logs.{contiguous-up-to, up-to-up-to, above-up-to}
+use Rattle.safety.proofs.Induction.{each-server}
 use Rattle.one_order.specs.Order.{order, furthest, committed, linearization, Extends, Later}
-use Rattle.one_order.proofs.Sequences.{extends-trans}
 use Rattle.one_order.proofs.Orders.{order-extends}
 use Rattle.one_order.proofs.Events.{commit-up}
-use Rattle.one_order.proofs.Moments.{Run, Moment, later-by, each-server}
-use Rattle.one_order.proofs.Agreement.{log-in-a-row, agree-now, agree-next}
+use Rattle.one_order.proofs.Runs.{Run, later-by}
+use Rattle.one_order.proofs.Agreement.{log-contiguous, agree-since, agree-now}
 
--- the server that has committed furthest is one of them
+-- THE SERVER THAT HAS COMMITTED FURTHEST
+
+-- is one of them
 furthest-below : (st : ℕ → State) (n : ℕ) → furthest st (suc n) < suc n
 unfolding furthest
 furthest-below st zero = pick-by (λ y. y < 1) (ltb (st 0 .commit) (st 0 .commit)) 0 0 (λ q. omega arith) (λ q. omega arith)
@@ -38,7 +40,6 @@ furthest-most st (suc n) v h =
     elim (cases-eq v n) [ inl p ↦ rw p (omega arith) | inr ne ↦ (let ih = furthest-most st n v (omega arith) in omega arith) ])
     (λ q. let le = ltb-false _ _ q in elim (cases-eq v n) [ inl p ↦ rw p le | inr ne ↦ furthest-most st n v (omega arith) ])
 
--- the server that has committed furthest in a world
 abbrev ahead : Group → World → ℕ
 ahead g w = furthest (at-server g w) (g .servers)
 
@@ -59,7 +60,7 @@ module _ {f : Program} {g : Group} {w : World} (r : Run f g w) where
   committed-on-top v n low h =
       let a : State = at-server g w (ahead g w) in
       let far = furthest-most (at-server g w) (g .servers) v low in
-      let row = row-up-to (a .commit) (a .log) (log-in-a-row r (ahead g w)) in
+      let row = contiguous-up-to (a .commit) (a .log) (log-contiguous r (ahead g w)) in
       let same : up-to n (committed g w) ≡ up-to n (at-server g w v .log) =
       up-to-up-to n (a .commit) (a .log) (omega arith) ∙ agree-now r (ahead g w) v n (omega arith) h in
       sym (above-up-to n (committed g w) row) ∙ ap (λ y. above n (committed g w) ++ y) same
@@ -72,37 +73,28 @@ module _ {f : Program} {g : Group} {w : World} (r : Run f g w) where
       subst (λ y. Extends (order y) (order (up-to n (at-server g w v .log)))) (sym (committed-on-top v n low h))
       (order-extends (above n (committed g w)) (up-to n (at-server g w v .log)))
 
--- ONE HAPPENING MORE
+-- AS TIME GOES ON
 
-module _ {f : Program} {g : Group} {w : World} {i : ℕ} {e : Event} (m : Moment f g w i e) where
+module _ {f : Program} {g : Group} {w′ : World} (r : Run f g w′) (w : World) (later : Later w w′) where
   -- no commit index falls
-  commits-up : (v : ℕ) → at-server g w v .commit ≤ at-server g (happens f g w i e) v .commit
+  pub commits-up : (v : ℕ) → at-server g w v .commit ≤ at-server g w′ v .commit
   commits-up =
-      each-server m (λ v y. at-server g w v .commit ≤ y .commit) (commit-up (limits g i) (at-server g w i) e) (λ v. omega arith)
+      later-by (λ w w′. (v : ℕ) → at-server g w v .commit ≤ at-server g w′ v .commit)
+      (λ w w′ q v. subst (λ p. at-server g w v .commit ≤ state (limits g v) (seen v p) .commit) (sym q) (omega arith))
+      (λ w x i e m holds. each-server f g x i e (λ v y. at-server g w v .commit ≤ y .commit)
+      (let a = holds i in let b = commit-up (limits g i) (at-server g x i) e in omega arith) (λ v ne. holds v))
+      r w later
 
   -- what was committed at a server stays in its log
-  pub committed-stays : (v n : ℕ) → n ≤ at-server g w v .commit
-      → up-to n (at-server g w v .log) ≡ up-to n (at-server g (happens f g w i e) v .log)
-  committed-stays v n h = let up = commits-up v in agree-next m v v n h (omega arith)
+  pub committed-stays : (v n : ℕ) → n ≤ at-server g w v .commit → up-to n (at-server g w v .log) ≡ up-to n (at-server g w′ v .log)
+  committed-stays v n h = let up = commits-up v in agree-since r w later v v n h (omega arith)
 
-  -- The order grows on top: the server that had committed furthest has its committed log still.
-  pub grows-next : Extends (linearization g (happens f g w i e)) (linearization g w)
+  -- The order of a later world extends that of an earlier one: what the server that had committed furthest had committed then is
+  -- committed there still, in its place.
+  pub only-grows : Extends (linearization g w′) (linearization g w)
   unfolding linearization committed
-  grows-next =
+  only-grows =
       let v : ℕ = ahead g w in
       let n : ℕ = at-server g w v .commit in
-      subst (λ y. Extends (linearization g (happens f g w i e)) (order y)) (sym (committed-stays v n (omega arith)))
-      (extends-server (m .new) v n (ahead-low g w (m .old .group .0)) (commits-up v))
-
--- IN THE LONG RUN: the order of a later world extends that of an earlier one.
-
--- (the order depends on what happened only, and not on what was sent)
-same-past : (g : Group) (w w′ : World) → w .past ≡ w′ .past → Extends (linearization g w′) (linearization g w)
-unfolding linearization committed
-same-past g w w′ q = subst (λ p. Extends (linearization g (record { past = p; sent = [] })) (linearization g w)) q ([], refl)
-
-pub only-grows : {f : Program} {g : Group} {w′ : World} → Run f g w′ → (w : World) → Later w w′
-    → Extends (linearization g w′) (linearization g w)
-only-grows {f} {g} =
-    later-by (λ w w′. Extends (linearization g w′) (linearization g w)) (same-past g)
-    (λ w x i e m. extends-trans (linearization g (happens f g x i e)) (linearization g x) (linearization g w) (grows-next m))
+      subst (λ y. Extends (linearization g w′) (order y)) (sym (committed-stays v n (omega arith)))
+      (extends-server r v n (ahead-low g w (r .group .0)) (commits-up v))

@@ -13,17 +13,17 @@ use Rattle.servers.specs.Server.{Entry, Limits, State, Said, last-index, up-to,
 use Rattle.servers.specs.World.{reply-in, Said-in}
 use Rattle.std.proofs.shelf.Tests.{cases-lt}
 use Rattle.std.proofs.shelf.Ways.{tells}
-use Rattle.safety.proofs.Logs.{Row, row-last, row-up-to, up-to-all, up-to-more, up-to-up-to, above-up-to}
+use Rattle.safety.proofs.Logs.{Contiguous, contiguous-last, contiguous-up-to, up-to-all, up-to-cons, up-to-up-to, above-up-to}
 use Rattle.one_order.specs.Order.{order}
 use Rattle.one_order.proofs.Lists.{all-up-to, all-above}
 use Rattle.one_order.proofs.Applying.{machine, Made-by, Clients-below, applies-all, tells-all}
 
-due-none : (lo hi : ℕ) (l : List Entry) → Row l → last-index l ≤ lo → due lo hi l ≡ []
+due-none : (lo hi : ℕ) (l : List Entry) → Contiguous l → last-index l ≤ lo → due lo hi l ≡ []
 unfolding due
 due-none lo hi [] r h = refl
 due-none lo hi (e ∷ es) r h =
     let p = r .0 in
-    let k = row-last es (r .1) in
+    let k = contiguous-last es (r .1) in
     let ih = due-none lo hi es (r .1) (omega arith) in
     let z : (ltb lo (e .index) && leb (e .index) hi) ≡ false = grind (arith, tells) in
     rw (ih, z)
@@ -33,7 +33,7 @@ unfolding above
 above-none lo [] h = refl
 above-none lo (e ∷ es) h = let z : ltb lo (e .index) ≡ false = grind (arith, tells) in rw z
 
-pub due-is-above : (lo hi : ℕ) (l : List Entry) → Row l → lo ≤ hi → due lo hi l ≡ reverse (above lo (up-to hi l))
+pub due-is-above : (lo hi : ℕ) (l : List Entry) → Contiguous l → lo ≤ hi → due lo hi l ≡ reverse (above lo (up-to hi l))
 unfolding due above
 due-is-above lo hi [] r h = rw (up-to-all hi [] (omega arith))
 due-is-above lo hi (e ∷ es) r h = go (cases-lt hi (e .index)) (cases-lt lo (e .index)) (due-is-above lo hi es (r .1) h)
@@ -42,10 +42,10 @@ due-is-above lo hi (e ∷ es) r h = go (cases-lt hi (e .index)) (cases-lt lo (e 
         → due lo hi (e ∷ es) ≡ reverse (above lo (up-to hi (e ∷ es)))
     go (inl p) q ih =
         let z : (ltb lo (e .index) && leb (e .index) hi) ≡ false = grind (arith, tells) in
-        rw (z, up-to-more hi e es p) (append-nil (due lo hi es) ∙ ih)
+        rw (z, up-to-cons hi e es p) (append-nil (due lo hi es) ∙ ih)
     go (inr p) (inl q) ih =
         let i = r .0 in
-        let k = row-last es (r .1) in
+        let k = contiguous-last es (r .1) in
         let z : (ltb lo (e .index) && leb (e .index) hi) ≡ true = grind (arith, tells) in
         let y : ltb lo (e .index) ≡ true = grind (arith, tells) in
         let all : up-to hi es ≡ es = up-to-all hi es (omega arith) in
@@ -53,11 +53,11 @@ due-is-above lo hi (e ∷ es) r h = go (cases-lt hi (e .index)) (cases-lt lo (e 
     go (inr p) (inr q) ih = rw (due-none lo hi (e ∷ es) r q, up-to-all hi (e ∷ es) p, above-none lo (e ∷ es) q)
 
 -- what is due stands on top of what is applied
-pub above-applied : (lo hi : ℕ) (l : List Entry) → Row l → lo ≤ hi → above lo (up-to hi l) ++ up-to lo l ≡ up-to hi l
+pub above-applied : (lo hi : ℕ) (l : List Entry) → Contiguous l → lo ≤ hi → above lo (up-to hi l) ++ up-to lo l ≡ up-to hi l
 above-applied lo hi l r h =
-    ap (λ x. above lo (up-to hi l) ++ x) (sym (up-to-up-to lo hi l h)) ∙ above-up-to lo (up-to hi l) (row-up-to hi l r)
+    ap (λ x. above lo (up-to hi l) ++ x) (sym (up-to-up-to lo hi l h)) ∙ above-up-to lo (up-to hi l) (contiguous-up-to hi l r)
 
-module _ (n : ℕ) (s : State) (lo hi : ℕ) (log : List Entry) (row : Row log) (below : Clients-below n log) (le : lo ≤ hi)
+module _ (n : ℕ) (s : State) (lo hi : ℕ) (log : List Entry) (row : Contiguous log) (below : Clients-below n log) (le : lo ≤ hi)
     (made : Made-by n (machine s) (order (up-to lo log))) where
   due-below : Clients-below n (above lo (up-to hi log))
   due-below = all-above _ lo (up-to hi log) (all-up-to _ hi log below)

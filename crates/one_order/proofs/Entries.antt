@@ -13,10 +13,9 @@ use Rattle.servers.specs.Server.{sends-now, sent-now, after-all, ends-there, is
 use Rattle.servers.specs.World.{Sent, In, from, letters}
 use Rattle.std.proofs.shelf.Tests.{eqb-true}
 use Rattle.safety.proofs.Tests.{pick-by}
-use Rattle.safety.proofs.Moves.{in-either, from-append, all-others}
-use Rattle.safety.proofs.Quiet.{all-one}
-use Rattle.safety.proofs.Ghosts.{View}
-use Rattle.safety.proofs.Events.{finished-view, sent-view}
+use Rattle.safety.proofs.Letters.{in-either, from-append, all-one, all-others}
+use Rattle.safety.proofs.Invariant.{View}
+use Rattle.safety.proofs.Unseen.{finished-unseen, sent-unseen}
 use Rattle.one_order.proofs.Lists.{All, all-more, all-append, all-up-to, all-above}
 use Rattle.one_order.proofs.Steps.{Core, core, made-entry, first-by, settles-by}
 
@@ -55,7 +54,7 @@ module _ (P : Entry → Type 0) (l : Limits) (s : State) where
 
   all-log : (y : State) → All P (y .log) → All P (after-all l y .log)
   all-log y a =
-      subst (λ (v : View). All P (v .log)) (sym (finished-view (sent-now (settles l y)))) (settles-by (λ c. All P (c .log)) l y (λ n up. a))
+      subst (λ (v : View). All P (v .log)) (sym (finished-unseen (sent-now (settles l y)))) (settles-by (λ c. All P (c .log)) l y (λ n up. a))
 
   pub after-log : (e : Event) → All P (s .log) → (turned l s e ≡ 0 → Brings e) → All P (after l s e .log)
   after-log e a b =

@@ -14,9 +14,9 @@ use Rattle.servers.specs.Server.{turned, place, after, answer}
 use Rattle.servers.specs.World.{Told-by, Said-in, reply-in}
 use Rattle.std.proofs.shelf.Ways.{tells}
 use Rattle.safety.proofs.Tests.{bool-by, pick-by}
-use Rattle.safety.proofs.Logs.{Row}
-use Rattle.safety.proofs.Ghosts.{View, view}
-use Rattle.safety.proofs.Events.{all-view, finished-view}
+use Rattle.safety.proofs.Logs.{Contiguous}
+use Rattle.safety.proofs.Invariant.{View, view}
+use Rattle.safety.proofs.Unseen.{all-unseen, finished-unseen}
 use Rattle.one_order.specs.Order.{order, applied-order}
 use Rattle.one_order.proofs.Applying.{Machine, machine, Made-by, Clients-below}
 use Rattle.one_order.proofs.Due.{due-applies, due-tells}
@@ -35,7 +35,7 @@ module _ (n : ℕ) (l : Limits) (s : State) (was : Applied n s) where
   -- what an event owes that leads to state y and answer a
   abbrev Owed : State → Answer → Type 0
   Owed y a =
-      Row (y .log) → Clients-below n (y .log) → up-to (s .applied) (y .log) ≡ up-to (s .applied) (s .log)
+      Contiguous (y .log) → Clients-below n (y .log) → up-to (s .applied) (y .log) ≡ up-to (s .applied) (s .log)
       → Applied n y × Tells y a × (s .applied ≤ y .applied)
 
   -- the machine is the old one, so it is that of the log up to the applied index still
@@ -54,11 +54,11 @@ module _ (n : ℕ) (l : Limits) (s : State) (was : Applied n s) where
       → ((x : Said) → Said-in x ss → Said-in x (tell-all l m (dues m))) → Owed (finished m) (does ss ls)
   unfolding Told-by
   finishing m st ss ls sub r b same =
-      let log : finished m .log ≡ m .log = ap (λ (v : View). v .log) (all-view m (dues m)) in
-      let commit : finished m .commit ≡ m .commit = ap (λ (v : View). v .commit) (all-view m (dues m)) in
+      let log : finished m .log ≡ m .log = ap (λ (v : View). v .log) (all-unseen m (dues m)) in
+      let commit : finished m .commit ≡ m .commit = ap (λ (v : View). v .commit) (all-unseen m (dues m)) in
       let lo = was .low in let up = st .0 in let e = st .1 in
       let le : m .applied ≤ m .commit = omega arith in
-      let row : Row (m .log) = subst Row log r in
+      let row : Contiguous (m .log) = subst Contiguous log r in
       let below : Clients-below n (m .log) = subst (Clients-below n) log b in
       let old = made-still m st (subst (λ y. up-to (s .applied) y ≡ up-to (s .applied) (s .log)) log same) in
       let top : at-least (m .applied) (m .commit) ≡ m .commit = grind (arith, tells) in (
@@ -95,6 +95,6 @@ commit-up l s e =
     let f = first-steady l s e in
     pick-by (λ (y : State). s .commit ≤ y .commit) (eqb (turned l s e) 0) (stepped l s e) s
     (λ q. pick-by (λ (y : State). s .commit ≤ y .commit) (ends-there e) (first-step l s e) (after-all l (first-step l s e)) (λ r. f .0)
-    (λ r. subst (λ (v : View). s .commit ≤ v .commit) (sym (finished-view (sent-now (settles l (first-step l s e)))))
+    (λ r. subst (λ (v : View). s .commit ≤ v .commit) (sym (finished-unseen (sent-now (settles l (first-step l s e)))))
     (settles-steady l s (first-step l s e) f .0)))
     (λ q. omega arith)

@@ -6,7 +6,7 @@ pub mod Due
 pub mod Steps
 pub mod Events
 pub mod Entries
-pub mod Moments
+pub mod Runs
 pub mod Agreement
 pub mod Committed
 pub mod Asked

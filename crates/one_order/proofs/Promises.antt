@@ -13,13 +13,14 @@ use Rattle.one_order.specs.Linearizable.{At-most-once, Numbers-rise, Told-the-
 use Rattle.one_order.specs.Linearizable.{Applied-stays, Applied-agree, Told-is-applied}
 use Rattle.one_order.proofs.Sequences.{Stands, stands-after, Rises, rises-times, rises-below, new-is-higher}
 use Rattle.one_order.proofs.Orders.{order-rises, order-once}
-use Rattle.one_order.proofs.Moments.{Run}
+use Rattle.one_order.proofs.Runs.{Run}
 use Rattle.one_order.proofs.Committed.{only-grows, extends-server}
 use Rattle.one_order.proofs.Asked.{linearization-asked, in-order-asked}
-use Rattle.one_order.proofs.Told.{servers-applied, applied-stays, applied-agree, told-applied, told-right, told-there}
+use Rattle.one_order.proofs.Told.{servers-applied, applied-up, applied-stays, applied-agree, told-applied, told-right, told-there}
 use Rattle.one_order.proofs.RealTime.{in-real-time}
 
-abbrev run : (can : ℕ → Bool) (f : Program) (g : Group) (w : World) → Right can f → Good-group can g → Lived f g w → readable-world w → Run f g w
+abbrev run : (can : ℕ → Bool) (f : Program) (g : Group) (w : World) → Right can f → Good-group can g → Lived f g w → readable-world w
+    → Run f g w
 run can f g w right group lived fine = record { can = can; right = right; group = group; lived = lived; fine = fine }
 
 linearizes : {f : Program} {g : Group} {w : World} → Run f g w → Linearizes (w .past) (linearization g w)
@@ -101,8 +102,8 @@ servers-follow can f g w right group lived fine i low =
     }
 
 pub what-is-applied-stays : Applied-stays
-what-is-applied-stays can f g w w′ right group lived fine later i low = applied-stays (run can f g w′ right group lived fine) w later i
+what-is-applied-stays can f g w w′ right group lived fine later i low =
+    let r = run can f g w′ right group lived fine in (applied-up r w later i, applied-stays r w later i)
 
 pub what-is-applied-agrees : Applied-agree
-what-is-applied-agrees can f g w w′ right group lived fine later i j n low high =
-    applied-agree (run can f g w′ right group lived fine) w later i j n
+what-is-applied-agrees can f g w right group lived fine = applied-agree (run can f g w right group lived fine)

@@ -12,7 +12,7 @@ use Rattle.servers.specs.World.{told-in, is-told, was-told, was-asked, before, 
 use Rattle.std.proofs.shelf.Tests.{cases-bool, and-parts, false≢true, both-ways, not-true, or-cases, eqb-true}
 use Rattle.one_order.specs.Order.{linearization}
 use Rattle.one_order.proofs.Sequences.{new-is-later}
-use Rattle.one_order.proofs.Moments.{Run, World-of, earlier-world}
+use Rattle.one_order.proofs.Runs.{Run, world-then, run-then}
 use Rattle.one_order.proofs.Committed.{only-grows}
 use Rattle.one_order.proofs.Asked.{in-order-asked}
 use Rattle.one_order.proofs.Told.{told-there}
@@ -93,7 +93,8 @@ pub in-real-time : {f : Program} {g : Group} {w : World} → Run f g w → (c k 
     → there (linearization g w) d j ≡ true → earlier (linearization g w) c k d j ≡ true
 in-real-time {f} {g} {w} r c k d j q t =
     let b = between (w .past) c k d j q in
-    let x = earlier-world r (b .since) (b .then) (b .splits) in
+    let x = world-then r (b .then) (b .since, b .splits) in
+    let old = run-then r x in
     let grown = only-grows r (x .world) (b .since, b .splits ∙ ap (λ y. b .since ++ y) (sym (x .is))) in
     new-is-later (linearization g w) (linearization g (x .world)) c k d j grown
-    (was-told-there (x .run) c k (rw (x .is) (b .told))) (not-asked-not-there (x .run) d j (rw (x .is) (b .not-asked))) t
+    (was-told-there old c k (rw (x .is) (b .told))) (not-asked-not-there old d j (rw (x .is) (b .not-asked))) t

@@ -9,6 +9,7 @@ use Rattle.servers.specs.Server.{State, Said, request, no-cached, nth, up-to}
 use Rattle.servers.specs.World.{Program, Group, Happening, World, Lived, Asked, Told, Happened}
 use Rattle.servers.specs.World.{before, store-after, reply-in, there, each-once, earlier}
 use Rattle.servers.specs.Promise.{Right, Good-group, readable-world, all-asked, As-if-one, Holds, at-server}
+use Rattle.safety.specs.Safety.{Of-moments}
 use Rattle.one_order.specs.Order.{session, applied-order, linearization, Extends, Later, times}
 
 -- THE THEOREM: servers that answer as the definitions say are together as if there were one.
@@ -89,12 +90,10 @@ Applied-stays =
     (at-server g w i .applied ≤ at-server g w′ i .applied)
     × (up-to (at-server g w i .applied) (at-server g w i .log) ≡ up-to (at-server g w i .applied) (at-server g w′ i .log)))
 
--- No two servers ever apply different entries at one index, whenever they do.
+-- No two servers ever apply different entries at one index, at whatever moments.
 abbrev pub Applied-agree : Type 0
 Applied-agree =
-    Holds-later (λ w w′ g. (i j n : ℕ) → i < g .servers → j < g .servers →
-    n ≤ at-server g w i .applied → n ≤ at-server g w′ j .applied →
-    up-to n (at-server g w i .log) ≡ up-to n (at-server g w′ j .log))
+    Of-moments (λ a b. (i j n : ℕ) → n ≤ a i .applied → n ≤ b j .applied → up-to n (a i .log) ≡ up-to n (b j .log))
 
 -- Only what is applied is told: some server, the one that told, has done the command, with that reply.
 abbrev pub Told-is-applied : Type 0

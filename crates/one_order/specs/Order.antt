@@ -8,8 +8,9 @@ use Prim.Native.Nat.{ℕ, zero, suc}
 use lib.Dec.{ltb, eqb}
 use Rattle.servers.specs.Store.{pick, reply}
 use Rattle.servers.specs.Server.{Entry, Cached, State, no-cached, up-to}
-use Rattle.servers.specs.World.{Group, Happening, World, Asked, store-after}
+use Rattle.servers.specs.World.{Group, World, Asked, store-after}
 use Rattle.servers.specs.Promise.{at-server}
+use Rattle.safety.specs.Safety.{Until}
 
 -- the session of a client at one server that did these commands, the last first, and no others: the number and the
 -- reply of the client's last command
@@ -53,9 +54,10 @@ linearization g w = order (committed g w)
 abbrev pub Extends : List Asked → List Asked → Type 0
 Extends big small = (more : List Asked) × (big ≡ more ++ small)
 
--- a world in which more has happened since, or nothing. So is every world that `happens` leads to from w, in any number of steps
+-- a world in which what happened in w is what happened until some moment. So is every world that `happens` leads to from w, in
+-- any number of steps
 abbrev pub Later : World → World → Type 0
-Later w w′ = (since : List Happening) × (w′ .past ≡ since ++ w .past)
+Later w w′ = Until (w .past) (w′ .past)
 
 -- how often a client's number stands in an order
 unfoldable pub times : List Asked → ℕ → ℕ → ℕ
