@@ -2,12 +2,12 @@
 -- only have entries on top. So the linearization order, which is read off it, only grows.
 use mathlib.Core.Path.{_≡_, sym, ap, subst, _∙_}
 use mathlib.Core.Logic.{inl, inr}
-use mathlib.Core.List.{List, [], _++_}
+use mathlib.Core.List.{_++_}
 use Prim.Native.Nat.{ℕ, zero, suc, _≤_, _<_}
 use native.Mathlib.Omega.{arith}
 use lib.Dec.{ltb}
 use Rattle.servers.specs.Server.{State, state, up-to, above}
-use Rattle.servers.specs.World.{Program, Group, limits, World, seen, happens}
+use Rattle.servers.specs.World.{Program, Group, limits, World, seen}
 use Rattle.servers.specs.Promise.{at-server}
 use Rattle.std.proofs.shelf.Tests.{cases-eq, ltb-true, ltb-false}
 use Rattle.safety.proofs.Tests.{pick-by}

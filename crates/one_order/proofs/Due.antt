@@ -1,14 +1,12 @@
--- Which entries are due: those above the applied index, up to the commit index, the oldest first. So applying what is due takes a server from the log up to
--- its applied index to the log up to its commit index. Here alone indices matter.
+-- WHAT IS DUE: the entries above the applied index, up to the commit index, the oldest first. So applying what is due takes a server
+-- from its log up to the applied index to its log up to the commit index. Here alone indices matter.
 use mathlib.Core.Path.{_≡_, refl, sym, ap, subst, _∙_}
 use mathlib.Core.Logic.{_⊎_, inl, inr}
-use mathlib.Core.Bool.{Bool, true, false, _&&_}
+use mathlib.Core.Bool.{true, false, _&&_}
 use mathlib.Core.List.{List, [], _∷_, _++_, append-nil, reverse, reverse-cons}
-use Prim.Native.Nat.{ℕ, zero, suc, _≤_, _<_}
+use Prim.Native.Nat.{ℕ, _≤_, _<_}
 use native.Mathlib.Omega.{arith}
-use lib.Dec.{ltb, leb, eqb}
-use lib.ListN.{length}
-use Rattle.servers.specs.Store.{pick}
+use lib.Dec.{ltb, leb}
 use Rattle.servers.specs.Server.{Entry, Limits, State, Said, last-index, up-to, above, due, do-all, tell-all}
 use Rattle.servers.specs.World.{reply-in, Said-in}
 use Rattle.std.proofs.shelf.Tests.{cases-lt}

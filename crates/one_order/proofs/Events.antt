@@ -1,26 +1,25 @@
 -- One event at one server. If the server's machine was that of its log up to the applied index, and the event left that part of the log as it was, then the
 -- same is so afterwards, and whoever is told is told what the order of the log up to the new commit index says.
-use mathlib.Core.Path.{_≡_, refl, sym, ap, subst, _∙_}
-use mathlib.Core.Logic.{_⊎_, inl, inr}
-use mathlib.Core.Bool.{Bool, true, false, not, _&&_, _||_}
+use mathlib.Core.Path.{_≡_, refl, sym, ap, subst}
+use mathlib.Core.Bool.{not, _&&_}
 use mathlib.Core.List.{List, [], _∷_, _++_}
-use Prim.Native.Nat.{ℕ, zero, suc, _≤_, _<_}
+use Prim.Native.Nat.{ℕ, _≤_}
 use native.Mathlib.Omega.{arith}
-use lib.Dec.{ltb, leb, eqb}
+use lib.Dec.{eqb}
 use Rattle.servers.specs.Store.{pick}
-use Rattle.servers.specs.Server.{Entry, Limits, State, Said, Letter, Event, Answer, refused, not-leader, does, at-least, up-to, due, dues, do-all, tell-all}
+use Rattle.servers.specs.Server.{Limits, State, Said, Letter, Event, Answer, refused, not-leader, does, at-least, up-to, due, dues, tell-all}
 use Rattle.servers.specs.Server.{first-step, first-letters, settles, sends-now, sent-now, finished, after-all, ends-there, is-request, stepped, doing}
 use Rattle.servers.specs.Server.{turned, place, after, answer}
 use Rattle.servers.specs.World.{Told-by, Said-in, reply-in}
 use Rattle.std.proofs.shelf.Ways.{tells}
 use Rattle.safety.proofs.Tests.{bool-by, pick-by}
 use Rattle.safety.proofs.Logs.{Contiguous}
-use Rattle.safety.proofs.Invariant.{View, view}
+use Rattle.safety.proofs.Invariant.{View}
 use Rattle.safety.proofs.Unseen.{all-unseen, finished-unseen}
-use Rattle.one_order.specs.Order.{order, applied-order}
-use Rattle.one_order.proofs.Applying.{Machine, machine, Made-by, Clients-below}
+use Rattle.one_order.specs.Order.{applied-order}
+use Rattle.one_order.proofs.Applying.{machine, Made-by, Clients-below}
 use Rattle.one_order.proofs.Due.{due-applies, due-tells}
-use Rattle.one_order.proofs.Steps.{Core, core, Steady, first-steady, settles-steady}
+use Rattle.one_order.proofs.Steps.{core, Steady, first-steady, settles-steady}
 
 -- what is applied is committed, and the machine is that of the log up to there
 pub record Applied (n : ℕ) (s : State) : Type 0 where

@@ -8,10 +8,11 @@ use Rattle.servers.specs.Server.{request}
 use Rattle.servers.specs.World.{Program, Group, Happening, World, Lived, Asked, Happened, store-after, reply-in}
 use Rattle.servers.specs.Promise.{Good-group, Right, readable-world, all-asked, at-server, As-if-one, Told-the-same, Told-was-asked}
 use Rattle.one_order.specs.Order.{order, committed, linearization}
-use Rattle.one_order.specs.Linearizable.{Right-is-linearizable, Linearizes, Order-linearizes, Order-only-grows, Sees, Later-sees-earlier}
-use Rattle.one_order.specs.Linearizable.{At-most-once, Numbers-rise, Told-the-same-always, Follows, Servers-follow}
+use Rattle.one_order.specs.Linearizable.{Right-is-linearizable, Linearizes, Order-linearizes, Order-only-grows, Later-sees-earlier}
+use Rattle.one_order.specs.Linearizable.{At-most-once, Numbers-rise, Told-the-same-always, Servers-follow}
 use Rattle.one_order.specs.Linearizable.{Applied-stays, Applied-agree, Told-is-applied}
-use Rattle.one_order.proofs.Sequences.{Stands, stands-after, Rises, rises-times, rises-below, new-is-higher}
+use Rattle.one_order.proofs.Sequences.{stands-after}
+use Rattle.one_order.proofs.Sessions.{Rises, rises-times, rises-below, new-is-higher}
 use Rattle.one_order.proofs.Orders.{order-rises, order-once}
 use Rattle.one_order.proofs.Runs.{Run}
 use Rattle.one_order.proofs.Committed.{only-grows, extends-server}

@@ -1,6 +1,6 @@
 -- Runs: the worlds that a good group of servers of a right program can get to. What the proof says of such a world it says by
 -- induction on what happened (`runs-by`), or on what happened since an earlier one (`later-by`).
-use mathlib.Core.Path.{_≡_, refl, sym}
+use mathlib.Core.Path.{_≡_, refl}
 use mathlib.Core.Bool.{Bool}
 use mathlib.Core.List.{List, [], _∷_}
 use Prim.Native.Nat.{ℕ}

@@ -1,7 +1,7 @@
 -- Every server's state machine is that of its applied entries, and whoever was told, by whichever server and whenever, was told
 -- what the linearization order says.
 use mathlib.Core.Path.{_≡_, sym, ap, subst, _∙_}
-use mathlib.Core.Logic.{_⊎_, inl, inr}
+use mathlib.Core.Logic.{inl, inr}
 use mathlib.Core.Bool.{true}
 use mathlib.Core.List.{List, [], _∷_, _++_}
 use Prim.Native.Nat.{ℕ, _≤_, _<_}
@@ -35,7 +35,7 @@ module _ {f : Program} {g : Group} {w : World} {i : ℕ} {e : Event} (m : Moment
       let s : State = at-server g w i in
       subst (λ a. Applied (g .clients) now × Tells now a × (s .applied ≤ now .applied)) (sym (says-so m))
       (subst (λ (y : State). Contiguous (y .log) → Clients-below (g .clients) (y .log) → up-to (s .applied) (y .log) ≡ up-to (s .applied) (s .log)
-          → Applied (g .clients) y × Tells y (answer (limits g i) s e) × (s .applied ≤ y .applied))
+      → Applied (g .clients) y × Tells y (answer (limits g i) s e) × (s .applied ≤ y .applied))
       (sym (here f g w i e)) (event-applies (g .clients) (limits g i) s was e) (log-contiguous (m .new) i) (clients-below (m .new) i)
       (sym (committed-stays (m .new) w (one-later f g w i e) i (s .applied) (was .low))))
 

@@ -2,22 +2,24 @@
 -- committed furthest, the committed part; of that, the commands that are new to their clients' sessions.
 -- Assumes nothing: these are definitions.
 use mathlib.Core.Path.{_≡_}
-use mathlib.Core.Bool.{Bool, true, false, not, _&&_, _||_}
+use mathlib.Core.Bool.{Bool, true, not, _&&_, _||_}
 use mathlib.Core.List.{List, [], _∷_, _++_}
 use Prim.Native.Nat.{ℕ, zero, suc}
 use lib.Dec.{ltb, eqb}
-use Rattle.servers.specs.Store.{pick, reply}
+use Rattle.servers.specs.Store.{pick, Store, reply}
 use Rattle.servers.specs.Server.{Entry, Cached, State, no-cached, up-to}
 use Rattle.servers.specs.World.{Group, World, Asked, store-after}
 use Rattle.servers.specs.Promise.{at-server}
 use Rattle.safety.specs.Safety.{Until}
 
--- the session of a client at one server that did these commands, the last first, and no others: the number and the
--- reply of the client's last command
+-- what a client's session remembers of a command that was done on a store: its number and reply
+abbrev pub remembered : Asked → Store → Cached
+remembered o s = record { there = true; id = o .id; reply = reply (o .command) s }
+
+-- the session of a client at one server that did these commands, the last first, and no others: of the client's last command
 unfoldable pub session : List Asked → ℕ → Cached
 session [] c = no-cached
-session (o ∷ os) c =
-    pick (eqb c (o .client)) (record { there = true; id = o .id; reply = reply (o .command) (store-after os) }) (session os c)
+session (o ∷ os) c = pick (eqb c (o .client)) (remembered o (store-after os)) (session os c)
 
 -- whether a number is higher than the one that a session knows
 abbrev pub new-to : Cached → ℕ → Bool
