@@ -1,13 +1,15 @@
--- Where entries come from. A server makes an entry of a request only; otherwise logs and letters pass on what they have. So what holds of every entry in the logs
--- and letters so far, and of every entry that a request can make, holds of every entry after an event. P is any property of entries.
+-- WHERE ENTRIES COME FROM: a server makes an entry of a request only; otherwise logs and letters pass on what they have. So what holds
+-- of every entry in the logs and letters so far, and of every entry that a request can make, holds of every entry after an event.
+-- P is any property of entries.
 use mathlib.Core.Path.{_≡_, sym, subst}
 use mathlib.Core.Logic.{_⊎_, inl, inr}
 use mathlib.Core.Bool.{not, _&&_, _||_}
 use mathlib.Core.List.{List, [], _++_}
 use Prim.Native.Nat.{ℕ, _-_}
 use lib.Dec.{ltb, eqb}
-use Rattle.servers.specs.Server.{Entry, Limits, State, Letter, Message, ask-vote, vote, append, appended, Event, timeout, request, comes, restart, garbled}
-use Rattle.servers.specs.Server.{Answer, not-leader, does, up-to, entry-at, term-is, next-for, back, to-server, first-step, first-letters, settles}
+use Rattle.servers.specs.Server.{Entry, Limits, State, Letter, Message, ask-vote, vote, append, appended}
+use Rattle.servers.specs.Server.{Event, timeout, request, comes, restart, garbled, Answer, not-leader, does}
+use Rattle.servers.specs.Server.{up-to, entry-at, term-is, next-for, back, to-server, first-step, first-letters, settles}
 use Rattle.servers.specs.Server.{sends-now, sent-now, after-all, ends-there, is-request, stepped, doing, turned, after, answer}
 use Rattle.servers.specs.World.{Sent, In, from, letters}
 use Rattle.std.proofs.shelf.Tests.{eqb-true}
@@ -40,7 +42,7 @@ module _ (P : Entry → Type 0) (l : Limits) (s : State) where
   Brings restart = Unit {0}
   Brings (garbled n) = Unit {0}
 
-  -- LOGS
+  -- LOGS: what is in the log after an event was in the log, in the message, or in the request
 
   first-log : (e : Event) → All P (s .log) → Brings e → All P (first-step l s e .log)
   first-log e a b =
@@ -53,7 +55,8 @@ module _ (P : Entry → Type 0) (l : Limits) (s : State) where
 
   all-log : (y : State) → All P (y .log) → All P (after-all l y .log)
   all-log y a =
-      subst (λ (v : View). All P (v .log)) (sym (finished-unseen (sent-now (settles l y)))) (settles-by (λ c. All P (c .log)) l y (λ n up. a))
+      subst (λ (v : View). All P (v .log)) (sym (finished-unseen (sent-now (settles l y))))
+      (settles-by (λ c. All P (c .log)) l y (λ n up. a))
 
   pub after-log : (e : Event) → All P (s .log) → (turned l s e ≡ 0 → Brings e) → All P (after l s e .log)
   after-log e a b =
@@ -111,4 +114,5 @@ module _ (P : Entry → Type 0) (l : Limits) (s : State) where
   pub carry-answer : (e : Event) → All P (s .log) → (turned l s e ≡ 0 → Brings e) → Carry (letters (answer l s e))
   unfolding letters
   carry-answer e a b =
-      pick-by (λ (y : Answer). Carry (letters y)) (eqb (turned l s e) 0) (doing l s e) _ (λ q. carry-doing e a (b (eqb-true _ _ q))) (λ q. carry-none)
+      pick-by (λ (y : Answer). Carry (letters y)) (eqb (turned l s e) 0) (doing l s e) _
+      (λ q. carry-doing e a (b (eqb-true _ _ q))) (λ q. carry-none)

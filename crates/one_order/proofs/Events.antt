@@ -1,5 +1,6 @@
--- One event at one server. If the server's machine was that of its log up to the applied index, and the event left that part of the log as it was, then the
--- same is so afterwards, and whoever is told is told what the order of the log up to the new commit index says.
+-- ONE EVENT AT ONE SERVER: if the server's machine was that of its log up to the applied index, and the event left that part of the log
+-- as it was, then it is so afterwards, and whoever is told is told what the order of the applied entries says. (That the event leaves
+-- that part of the log as it was is what safety is for: Agreement.)
 use mathlib.Core.Path.{_≡_, refl, sym, ap, subst}
 use mathlib.Core.Bool.{not, _&&_}
 use mathlib.Core.List.{List, [], _∷_, _++_}
@@ -7,9 +8,9 @@ use Prim.Native.Nat.{ℕ, _≤_}
 use native.Mathlib.Omega.{arith}
 use lib.Dec.{eqb}
 use Rattle.servers.specs.Store.{pick}
-use Rattle.servers.specs.Server.{Limits, State, Said, Letter, Event, Answer, refused, not-leader, does, at-least, up-to, due, dues, tell-all}
-use Rattle.servers.specs.Server.{first-step, first-letters, settles, sends-now, sent-now, finished, after-all, ends-there, is-request, stepped, doing}
-use Rattle.servers.specs.Server.{turned, place, after, answer}
+use Rattle.servers.specs.Server.{Limits, State, Said, Letter, Event, Answer, refused, not-leader, does, at-least, up-to}
+use Rattle.servers.specs.Server.{dues, tell-all, first-step, first-letters, settles, sends-now, sent-now, finished, after-all}
+use Rattle.servers.specs.Server.{ends-there, is-request, stepped, doing, turned, place, after, answer}
 use Rattle.servers.specs.World.{Told-by, Said-in, reply-in}
 use Rattle.std.proofs.shelf.Ways.{tells}
 use Rattle.safety.proofs.Tests.{bool-by, pick-by}
@@ -66,6 +67,7 @@ module _ (n : ℕ) (l : Limits) (s : State) (was : Applied n s) where
         omega arith,
       )
 
+  -- an event that isn't turned away: restarts end there, and all others apply what is due
   stepping : (e : Event) → Owed (stepped l s e) (doing l s e)
   unfolding Told-by Said-in
   stepping e =
@@ -82,11 +84,13 @@ module _ (n : ℕ) (l : Limits) (s : State) (was : Applied n s) where
       (λ p r b same. let w = finishing m g [] [] (λ x t. elim t [ ]) r b same in (w .0, λ x t. elim t [ ], w .2))
       (λ p. finishing m g (tell-all l m (dues m)) (first-letters l s e ++ sends-now l (settles l (first-step l s e))) (λ x t. t)))
 
+  -- any event: one that is turned away leaves all as it was
   pub event-applies : (e : Event) → Owed (after l s e) (answer l s e)
   unfolding Told-by
   event-applies e =
-      bool-by (λ z. Owed (pick z (stepped l s e) s) (pick z (doing l s e) (refused (turned l s e) (place e (turned l s e))))) (eqb (turned l s e) 0)
-      (λ q. stepping e) (λ q. quiet s (refused (turned l s e) (place e (turned l s e))) (omega arith, refl, refl, refl) (λ x t. t))
+      bool-by (λ z. Owed (pick z (stepped l s e) s) (pick z (doing l s e) (refused (turned l s e) (place e (turned l s e)))))
+      (eqb (turned l s e) 0) (λ q. stepping e)
+      (λ q. quiet s (refused (turned l s e) (place e (turned l s e))) (omega arith, refl, refl, refl) (λ x t. t))
 
 -- The commit index never falls.
 pub commit-up : (l : Limits) (s : State) (e : Event) → s .commit ≤ after l s e .commit

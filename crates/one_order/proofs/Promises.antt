@@ -1,22 +1,23 @@
 -- The statements, from what the other files show.
 use mathlib.Core.Path.{_≡_, sym, subst, _∙_}
 use mathlib.Core.Bool.{Bool}
-use mathlib.Core.List.{List, [], _∷_, _++_}
+use mathlib.Core.List.{List, [], _∷_, _++_, map}
 use Prim.Native.Nat.{ℕ}
 use Rattle.servers.specs.Store.{reply}
-use Rattle.servers.specs.Server.{request}
+use Rattle.servers.specs.Server.{Entry, request}
 use Rattle.servers.specs.World.{Program, Group, Happening, World, Lived, Asked, Happened, store-after, reply-in}
 use Rattle.servers.specs.Promise.{Good-group, Right, readable-world, all-asked, at-server, As-if-one, Told-the-same, Told-was-asked}
-use Rattle.one_order.specs.Order.{order, committed, linearization}
+use Rattle.one_order.specs.Order.{asked-of, order, committed, linearization}
 use Rattle.one_order.specs.Linearizable.{Right-is-linearizable, Linearizes, Order-linearizes, Order-only-grows, Later-sees-earlier}
 use Rattle.one_order.specs.Linearizable.{At-most-once, Numbers-rise, Told-the-same-always, Servers-follow}
-use Rattle.one_order.specs.Linearizable.{Applied-stays, Applied-agree, Told-is-applied}
+use Rattle.one_order.specs.Linearizable.{Applied-stays, Applied-agree, Entries-were-asked, Told-is-applied}
+use Rattle.one_order.proofs.Lists.{All}
 use Rattle.one_order.proofs.Sequences.{stands-after}
 use Rattle.one_order.proofs.Sessions.{Rises, rises-times, rises-below, new-is-higher}
 use Rattle.one_order.proofs.Orders.{order-rises, order-once}
 use Rattle.one_order.proofs.Runs.{Run}
 use Rattle.one_order.proofs.Committed.{only-grows, extends-server}
-use Rattle.one_order.proofs.Asked.{linearization-asked, in-order-asked}
+use Rattle.one_order.proofs.Asked.{Was-asked, entries-asked, linearization-asked, in-order-asked}
 use Rattle.one_order.proofs.Told.{servers-applied, applied-up, applied-stays, applied-agree, told-applied, told-right, told-there}
 use Rattle.one_order.proofs.RealTime.{in-real-time}
 
@@ -87,6 +88,16 @@ pub told-was-asked : Told-was-asked
 unfolding Told-was-asked
 told-was-asked can f g w right group lived fine s t =
     let r = run can f g w right group lived fine in in-order-asked r (s .client) (s .id) (told-there r s t)
+
+-- what is asked of every entry is asked of every command
+all-asked-of : (g : Group) (past : List Happening) (es : List Entry) → All (Was-asked g past) es → all-asked past (map asked-of es)
+unfolding all-asked
+all-asked-of g past [] a = tt
+all-asked-of g past (e ∷ es) a = (a .0 .1, all-asked-of g past es (a .1))
+
+pub entries-were-asked : Entries-were-asked
+entries-were-asked can f g w right group lived fine i low =
+    all-asked-of g (w .past) (at-server g w i .log) (entries-asked (run can f g w right group lived fine) .logs i)
 
 pub told-is-applied : Told-is-applied
 told-is-applied can f g w right group lived fine = told-applied (run can f g w right group lived fine)

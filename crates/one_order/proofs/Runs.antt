@@ -40,7 +40,9 @@ module _ {f : Program} {g : Group} where
   pub runs-by : (P : World → Type 0) → P new-world
       → ((w : World) (i : ℕ) (e : Event) → Moment f g w i e → P w → P (happens f g w i e)) → {w : World} → Run f g w → P w
   runs-by P first next r =
-      worlds-by f g P first (λ w i e s. next w i e (record { old = with-right (s .lived) (s .fine); new = with-right (s .lived-after) (s .fine-after); step = s }))
+      worlds-by f g P first
+      (λ w i e s. next w i e
+      (record { old = with-right (s .lived) (s .fine); new = with-right (s .lived-after) (s .fine-after); step = s }))
       (r .lived) (r .fine)
     where
       with-right : {x : World} → Lived f g x → readable-world x → Run f g x

@@ -26,7 +26,8 @@ use Rattle.one_order.proofs.Asked.{clients-below}
 
 -- ONE HAPPENING: what `event-applies` asks of the log is so, since what is committed stays in it.
 
-module _ {f : Program} {g : Group} {w : World} {i : ℕ} {e : Event} (m : Moment f g w i e) (was : Applied (g .clients) (at-server g w i)) where
+module _ {f : Program} {g : Group} {w : World} {i : ℕ} {e : Event} (m : Moment f g w i e)
+    (was : Applied (g .clients) (at-server g w i)) where
   abbrev now : State
   now = at-server g (happens f g w i e) i
 
@@ -34,7 +35,9 @@ module _ {f : Program} {g : Group} {w : World} {i : ℕ} {e : Event} (m : Moment
   applies-here =
       let s : State = at-server g w i in
       subst (λ a. Applied (g .clients) now × Tells now a × (s .applied ≤ now .applied)) (sym (says-so m))
-      (subst (λ (y : State). Contiguous (y .log) → Clients-below (g .clients) (y .log) → up-to (s .applied) (y .log) ≡ up-to (s .applied) (s .log)
+      (subst
+      (λ (y : State). Contiguous (y .log) → Clients-below (g .clients) (y .log)
+      → up-to (s .applied) (y .log) ≡ up-to (s .applied) (s .log)
       → Applied (g .clients) y × Tells y (answer (limits g i) s e) × (s .applied ≤ y .applied))
       (sym (here f g w i e)) (event-applies (g .clients) (limits g i) s was e) (log-contiguous (m .new) i) (clients-below (m .new) i)
       (sym (committed-stays (m .new) w (one-later f g w i e) i (s .applied) (was .low))))

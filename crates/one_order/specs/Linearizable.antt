@@ -2,7 +2,7 @@
 -- whose proof is owed; src/lib.rt has a function for each.
 use mathlib.Core.Path.{_≡_}
 use mathlib.Core.Bool.{Bool, true}
-use mathlib.Core.List.{List, [], _∷_, _++_}
+use mathlib.Core.List.{List, [], _∷_, _++_, map}
 use Prim.Native.Nat.{ℕ, _≤_, _<_}
 use Rattle.servers.specs.Store.{Command, reply}
 use Rattle.servers.specs.Server.{State, Said, request, no-cached, nth, up-to}
@@ -10,7 +10,7 @@ use Rattle.servers.specs.World.{Program, Group, Happening, World, Lived, Asked,
 use Rattle.servers.specs.World.{before, store-after, reply-in, there, each-once, earlier}
 use Rattle.servers.specs.Promise.{Right, Good-group, readable-world, all-asked, As-if-one, Holds, at-server}
 use Rattle.safety.specs.Safety.{Of-moments}
-use Rattle.one_order.specs.Order.{session, applied-order, linearization, Extends, Later, times}
+use Rattle.one_order.specs.Order.{asked-of, session, applied-order, linearization, Extends, Later, times}
 
 -- THE THEOREM: servers that answer as the definitions say are together as if there were one.
 abbrev pub Right-is-linearizable : Type 0
@@ -94,6 +94,10 @@ Applied-stays =
 abbrev pub Applied-agree : Type 0
 Applied-agree =
     Of-moments (λ a b. (i j n : ℕ) → n ≤ a i .applied → n ≤ b j .applied → up-to n (a i .log) ≡ up-to n (b j .log))
+
+-- Every entry of every log was asked, with that command.
+abbrev pub Entries-were-asked : Type 0
+Entries-were-asked = Holds (λ w g. (i : ℕ) → i < g .servers → all-asked (w .past) (map asked-of (at-server g w i .log)))
 
 -- Only what is applied is told: some server, the one that told, has done the command, with that reply.
 abbrev pub Told-is-applied : Type 0

@@ -3,7 +3,7 @@
 ghost use Rattle.servers.specs.Promise.{Told-the-same, Told-was-asked};
 ghost use Rattle.one_order.specs.Linearizable.{Right-is-linearizable, Order-linearizes, Order-only-grows};
 ghost use Rattle.one_order.specs.Linearizable.{Later-sees-earlier, At-most-once, Numbers-rise, Told-the-same-always};
-ghost use Rattle.one_order.specs.Linearizable.{Told-is-applied, Servers-follow, Applied-stays, Applied-agree};
+ghost use Rattle.one_order.specs.Linearizable.{Entries-were-asked, Told-is-applied, Servers-follow, Applied-stays, Applied-agree};
 
 // The theorem: one server that did the commands in some order would have told every client what it was told.
 pub fn right_is_linearizable() -> u8
@@ -49,8 +49,9 @@ pub fn told_the_same() -> u8
     0
 }
 
-// Only what was asked, and is applied, is told.
+// Only what was asked is in a log, and only what was asked, and is applied, is told.
 pub fn told_was_asked() -> u8
+    ensures entries { λ _. ⌜ Entries-were-asked ⌝ }
     ensures asked { λ _. ⌜ Told-was-asked ⌝ }
     ensures applied { λ _. ⌜ Told-is-applied ⌝ }
 {
