@@ -1,41 +1,34 @@
--- What this proof takes from the safety of the logs, and all that it takes: logs are in a row, the commit index lies within the log, and what is committed anywhere
--- agrees, now and one happening later.
+-- What this proof takes from the safety of the logs, and all that it takes: logs are contiguous, and what was ever committed at
+-- one server is what was ever committed at any. No other file here reads the invariant of safety.
 use mathlib.Core.Path.{_≡_, refl}
-use mathlib.Core.Logic.{inl, inr}
-use mathlib.Core.Bool.{Bool}
-use mathlib.Core.List.{List, [], _∷_}
+use mathlib.Core.List.{List, []}
 use Prim.Native.Nat.{ℕ, _≤_}
-use native.Mathlib.Omega.{arith}
-use Rattle.servers.specs.Server.{Event, last-index, up-to}
-use Rattle.servers.specs.World.{Program, Group, World, Lived, happens}
-use Rattle.servers.specs.Promise.{readable-world, Good-group, Right, at-server}
-use Rattle.std.proofs.shelf.Tests.{cases-lt}
-use Rattle.safety.specs.Safety.{State-machine-safety}
+use Rattle.servers.specs.Server.{up-to}
+use Rattle.servers.specs.World.{Program, Group, Happening, World}
+use Rattle.servers.specs.Promise.{at-server}
+use Rattle.safety.specs.Safety.{Until, at-moment, State-machine-safety}
 use Rattle.safety.proofs.Logs.{Contiguous}
-use Rattle.safety.proofs.Induction.{Step}
 use Rattle.safety.proofs.Worlds.{history}
 use Rattle.safety.proofs.OverTime.{state-machine-safety}
+use Rattle.one_order.specs.Order.{Later}
+use Rattle.one_order.proofs.Runs.{Run}
 
-module _ (can : ℕ → Bool) (f : Program) (g : Group) (right : Right can f) (group : Good-group can g) where
-  module _ {w : World} (lived : Lived f g w) (fine : readable-world w) where
-    pub log-in-a-row : (v : ℕ) → Contiguous (at-server g w v .log)
-    log-in-a-row v = history can f g right group lived fine .inv .servers v .log .contiguous
+module _ {f : Program} {g : Group} {w : World} (r : Run f g w) where
+  pub log-contiguous : (v : ℕ) → Contiguous (at-server g w v .log)
+  log-contiguous v = history (r .can) f g (r .right) (r .group) (r .lived) (r .fine) .inv .servers v .log .contiguous
 
-    pub commit-in-log : (v : ℕ) → at-server g w v .commit ≤ last-index (at-server g w v .log)
-    commit-in-log v =
-        elim (cases-lt 0 (at-server g w v .commit))
-        [ inl p ↦ history can f g right group lived fine .inv .servers v .commit p .inside | inr p ↦ omega arith ]
-
-    -- what is committed at two servers agrees
-    pub agree-now : (u v n : ℕ) → n ≤ at-server g w u .commit → n ≤ at-server g w v .commit
-        → up-to n (at-server g w u .log) ≡ up-to n (at-server g w v .log)
-    unfolding State-machine-safety
-    agree-now u v n = state-machine-safety can f g w right group lived fine (w .past) (w .past) ([], refl) ([], refl) u v n
-
-  -- and what was committed at one agrees with what is committed at another when one thing more has happened
-  pub agree-next : (w : World) (i : ℕ) (e : Event) → Step f g w i e → (u v n : ℕ) → n ≤ at-server g w u .commit
-      → n ≤ at-server g (happens f g w i e) v .commit → up-to n (at-server g w u .log) ≡ up-to n (at-server g (happens f g w i e) v .log)
+  -- whatever the two moments, and whichever is the earlier
+  pub agree-ever : (a b : List Happening) → Until a (w .past) → Until b (w .past) → (u v n : ℕ)
+      → n ≤ at-moment g a u .commit → n ≤ at-moment g b v .commit → up-to n (at-moment g a u .log) ≡ up-to n (at-moment g b v .log)
   unfolding State-machine-safety
-  agree-next w i e m u v n =
-      let w′ : World = happens f g w i e in
-      state-machine-safety can f g w′ right group (m .lived-after) (m .fine-after) (w .past) (w′ .past) (_ ∷ [], refl) ([], refl) u v n
+  agree-ever = state-machine-safety (r .can) f g w (r .right) (r .group) (r .lived) (r .fine)
+
+  -- in particular one in an earlier world
+  pub agree-since : (x : World) → Later x w → (u v n : ℕ) → n ≤ at-server g x u .commit → n ≤ at-server g w v .commit
+      → up-to n (at-server g x u .log) ≡ up-to n (at-server g w v .log)
+  agree-since x later = agree-ever (x .past) (w .past) later ([], refl)
+
+  -- or both in this one
+  pub agree-now : (u v n : ℕ) → n ≤ at-server g w u .commit → n ≤ at-server g w v .commit
+      → up-to n (at-server g w u .log) ≡ up-to n (at-server g w v .log)
+  agree-now = agree-ever (w .past) (w .past) ([], refl) ([], refl)

@@ -1,23 +1,26 @@
--- The state machine: a server that applies the entries of a log has the store and the sessions that the log's order makes, and tells its clients what that
--- order says. This is the only file that looks into `do-one` and `tell-one`; it knows nothing of indices, terms or other servers.
+-- THE STATE MACHINE: a server that applies the entries of a log has the store and the sessions that the log's order makes, and tells
+-- its clients what that order says. This is the only file that looks into `do-one` and `tell-one`; it knows nothing of indices, terms
+-- or other servers.
 use mathlib.Core.Path.{_≡_, refl, sym, ap, subst, _∙_}
 use mathlib.Core.Logic.{_⊎_, inl, inr}
-use mathlib.Core.Bool.{Bool, true, false, not, _&&_, _||_}
+use mathlib.Core.Bool.{true, false, _&&_, _||_}
 use mathlib.Core.List.{List, [], _∷_, _++_, append-nil, append-assoc, reverse, reverse-cons}
-use Prim.Native.Nat.{ℕ, zero, suc, _≤_, _<_}
+use Prim.Native.Nat.{ℕ, _<_}
 use native.Mathlib.Omega.{arith}
-use lib.Dec.{ltb, eqb}
+use lib.Dec.{eqb}
 use lib.ListN.{length}
 use Rattle.servers.specs.Store.{pick, Reply, Store, done, reply}
-use Rattle.servers.specs.Server.{Entry, Limits, State, Said, Cached, no-cached, nth, many, set-at, do-one, do-all, tell-one, tell-all, is-new, is-again, with-done}
+use Rattle.servers.specs.Server.{Entry, Limits, State, Said, Cached, no-cached, nth, many, set-at, with-done, is-new, is-again}
+use Rattle.servers.specs.Server.{do-one, do-all, tell-one, tell-all}
 use Rattle.servers.specs.World.{Asked, store-after, reply-in, Said-in}
 use Rattle.std.proofs.shelf.Tests.{and-parts, cases-eq, eq-eqb, ne-eqb, eqb-true}
 use Rattle.std.proofs.shelf.Ways.{tells}
-use Rattle.safety.proofs.Tests.{bool-by, pick-by}
+use Rattle.safety.proofs.Tests.{bool-by}
 use Rattle.safety.proofs.Tables.{length-many, length-set-at, nth-many}
-use Rattle.one_order.specs.Order.{session, new-to, asked-of, order, Extends}
+use Rattle.one_order.specs.Order.{remembered, session, new-to, asked-of, order}
 use Rattle.one_order.proofs.Lists.{All, nth-set-same, nth-set-other}
-use Rattle.one_order.proofs.Sequences.{session-told, reply-stays}
+use Rattle.one_order.proofs.Sequences.{reply-stays}
+use Rattle.one_order.proofs.Sessions.{session-told}
 use Rattle.one_order.proofs.Orders.{order-once, order-extends}
 
 -- the replicated state machine of a server: its store and its clients' sessions
@@ -42,45 +45,52 @@ made-by-none n = record { clients = length-many n no-cached; store = refl; sessi
 abbrev pub Clients-below : ℕ → List Entry → Type 0
 Clients-below n es = All (λ e. e .client < n) es
 
--- what a client's session remembers of an entry's command once it is done
-abbrev remembered : Entry → Store → Cached
-remembered e s = record { there = true; id = e .id; reply = reply (e .command) s }
-
 -- what the session of an entry's client remembers at a server
 abbrev cached : State → Entry → Cached
 cached s e = nth no-cached (s .cache) (e .client)
+
+-- the machine after an entry whose command is done
+abbrev doing : Machine → Entry → Machine
+doing m e =
+    record { store = done (e .command) (m .store); cache = set-at (m .cache) (e .client) (remembered (asked-of e) (m .store)) }
+
+-- what the client of an entry is told of it
+abbrev answer-to : State → Entry → Reply
+answer-to s e = pick (is-new s e) (reply (e .command) (s .store)) (cached s e .reply)
 
 -- ONE ENTRY
 
 -- A new command is done, and its client's session remembers it.
 did : (n : ℕ) (m : Machine) (os : List Asked) (e : Entry) → Made-by n m os → e .client < n
-    → Made-by n (record { store = done (e .command) (m .store); cache = set-at (m .cache) (e .client) (remembered e (m .store)) }) (asked-of e ∷ os)
+    → Made-by n (doing m e) (asked-of e ∷ os)
 unfolding store-after session
 did n m os e a low =
     record {
-      clients = length-set-at (m .cache) (e .client) (remembered e (m .store)) ∙ a .clients;
+      clients = length-set-at (m .cache) (e .client) (remembered (asked-of e) (m .store)) ∙ a .clients;
       store = ap (done (e .command)) (a .store);
       sessions = λ c lo. session-of c lo (cases-eq c (e .client));
     }
   where
     session-of : (c : ℕ) → c < n → (c ≡ e .client) ⊎ (c ≡ e .client → ⊥)
-        → nth no-cached (set-at (m .cache) (e .client) (remembered e (m .store))) c ≡ pick (eqb c (e .client)) (remembered e (store-after os)) (session os c)
+        → nth no-cached (doing m e .cache) c ≡ pick (eqb c (e .client)) (remembered (asked-of e) (store-after os)) (session os c)
     session-of c lo (inl p) =
         let here : e .client < length (m .cache) = rw (a .clients) low in
         let y : eqb (e .client) (e .client) ≡ true = eq-eqb _ _ refl in
-        rw (p, y, nth-set-same no-cached (m .cache) (e .client) (remembered e (m .store)) here) (ap (remembered e) (a .store))
+        rw (p, y, nth-set-same no-cached (m .cache) (e .client) (remembered (asked-of e) (m .store)) here)
+        (ap (remembered (asked-of e)) (a .store))
     session-of c lo (inr ne) =
         let y : eqb c (e .client) ≡ false = ne-eqb _ _ ne in
-        rw (y, nth-set-other no-cached (m .cache) (e .client) (remembered e (m .store)) c ne) (a .sessions c lo)
+        rw (y, nth-set-other no-cached (m .cache) (e .client) (remembered (asked-of e) (m .store)) c ne) (a .sessions c lo)
 
 module _ (n : ℕ) (s : State) (e : Entry) (es : List Entry) (a : Made-by n (machine s) (order es)) (low : e .client < n) where
   -- Applying one entry more: a command that isn't new to its session changes nothing.
   pub applies-one : Made-by n (machine (do-one s e)) (order (e ∷ es))
   unfolding order
   applies-one =
-      subst (λ x. Made-by n (machine (do-one s e)) (pick (new-to x (e .id)) (asked-of e ∷ order es) (order es))) (a .sessions (e .client) low)
-      (bool-by (λ z. Made-by n
-      (machine (pick z (with-done (done (e .command) (s .store)) (set-at (s .cache) (e .client) (remembered e (s .store))) s) s))
+      subst (λ x. Made-by n (machine (do-one s e)) (pick (new-to x (e .id)) (asked-of e ∷ order es) (order es)))
+      (a .sessions (e .client) low)
+      (bool-by
+      (λ z. Made-by n (machine (pick z (with-done (doing (machine s) e .store) (doing (machine s) e .cache) s) s))
       (pick z (asked-of e ∷ order es) (order es)))
       (is-new s e) (λ q. did n (machine s) (order es) e a low) (λ q. a))
 
@@ -93,18 +103,20 @@ module _ (n : ℕ) (s : State) (e : Entry) (es : List Entry) (a : Made-by n (mac
   reply-again : is-again s e ≡ true → reply-in (order es) (e .client) (e .id) ≡ cached s e .reply ∷ []
   reply-again q =
       let p = and-parts _ _ q in
-      let t = subst (λ (x : Cached). x .there ≡ true → reply-in (order es) (e .client) (x .id) ≡ x .reply ∷ []) (sym (a .sessions (e .client) low))
-      (session-told (order es) (e .client)) (p .0) in
+      let t =
+      subst (λ (x : Cached). x .there ≡ true → reply-in (order es) (e .client) (x .id) ≡ x .reply ∷ [])
+      (sym (a .sessions (e .client) low)) (session-told (order es) (e .client)) (p .0) in
       subst (λ k. reply-in (order es) (e .client) k ≡ cached s e .reply ∷ []) (eqb-true _ _ (p .1)) t
 
   -- A new command is told its reply, and one that is asked again what its session remembers: the order has just that.
-  reply-right : (is-new s e || is-again s e) ≡ true
-      → reply-in (order (e ∷ es)) (e .client) (e .id) ≡ pick (is-new s e) (reply (e .command) (s .store)) (cached s e .reply) ∷ []
+  reply-right : (is-new s e || is-again s e) ≡ true → reply-in (order (e ∷ es)) (e .client) (e .id) ≡ answer-to s e ∷ []
   unfolding order
   reply-right p =
-      subst (λ x. reply-in (pick (new-to x (e .id)) (asked-of e ∷ order es) (order es)) (e .client) (e .id)
-      ≡ pick (is-new s e) (reply (e .command) (s .store)) (cached s e .reply) ∷ []) (a .sessions (e .client) low)
-      (bool-by (λ z. (z || is-again s e) ≡ true → reply-in (pick z (asked-of e ∷ order es) (order es)) (e .client) (e .id)
+      subst
+      (λ x. reply-in (pick (new-to x (e .id)) (asked-of e ∷ order es) (order es)) (e .client) (e .id) ≡ answer-to s e ∷ [])
+      (a .sessions (e .client) low)
+      (bool-by
+      (λ z. (z || is-again s e) ≡ true → reply-in (pick z (asked-of e ∷ order es) (order es)) (e .client) (e .id)
       ≡ pick z (reply (e .command) (s .store)) (cached s e .reply) ∷ [])
       (is-new s e) (λ q h. reply-new) (λ q h. reply-again h) p)
 
@@ -112,18 +124,17 @@ module _ (n : ℕ) (s : State) (e : Entry) (es : List Entry) (a : Made-by n (mac
   tells-one : (l : Limits) (x : Said) → Said-in x (tell-one l s e) → reply-in (order (e ∷ es)) (x .client) (x .id) ≡ x .reply ∷ []
   unfolding Said-in
   tells-one l x h =
-      bool-by (λ z. (eqb (e .at) (l .me) && (is-new s e || is-again s e)) ≡ z
-      → Said-in x (pick z (record {
-        client = e .client;
-        id = e .id;
-        reply = pick (is-new s e) (reply (e .command) (s .store)) (cached s e .reply);
-      } ∷ []) []) → reply-in (order (e ∷ es)) (x .client) (x .id) ≡ x .reply ∷ [])
-      (eqb (e .at) (l .me) && (is-new s e || is-again s e)) (λ q p t. said (and-parts _ _ p .1) t) (λ q p t. elim t [ ]) refl h
+      bool-by
+      (λ z. (eqb (e .at) (l .me) && (is-new s e || is-again s e)) ≡ z
+      → Said-in x (pick z (record { client = e .client; id = e .id; reply = answer-to s e } ∷ []) [])
+      → reply-in (order (e ∷ es)) (x .client) (x .id) ≡ x .reply ∷ [])
+      (eqb (e .at) (l .me) && (is-new s e || is-again s e))
+      (λ q p t. said (and-parts _ _ p .1) t) (λ q p t. elim t [ ]) refl h
     where
-      said : (is-new s e || is-again s e) ≡ true
-          → (x ≡ record { client = e .client; id = e .id; reply = pick (is-new s e) (reply (e .command) (s .store)) (cached s e .reply) }) ⊎ ⊥
+      said : (is-new s e || is-again s e) ≡ true → (x ≡ record { client = e .client; id = e .id; reply = answer-to s e }) ⊎ ⊥
           → reply-in (order (e ∷ es)) (x .client) (x .id) ≡ x .reply ∷ []
-      said p (inl q) = subst (λ (y : Said). reply-in (order (e ∷ es)) (y .client) (y .id) ≡ y .reply ∷ []) (sym q) (reply-right p)
+      said p (inl q) =
+          subst (λ (y : Said). reply-in (order (e ∷ es)) (y .client) (y .id) ≡ y .reply ∷ []) (sym q) (reply-right p)
       said p (inr q) = elim q [ ]
 
 -- SEVERAL ENTRIES, the oldest first
@@ -165,7 +176,7 @@ tells-all n l s (d ∷ ds) es a b x h =
     let h′ : Said-in x (tell-all l s (reverse ds) ++ (tell-one l (do-all s (reverse ds)) d ++ [])) =
     rw (reverse-cons d ds, tell-append l s (reverse ds) (d ∷ [])) at h in
     elim (said-either x (tell-all l s (reverse ds)) (tell-one l (do-all s (reverse ds)) d ++ []) h′) [
-      | inl y ↦ reply-stays (order (d ∷ (ds ++ es))) (order (ds ++ es)) (x .client) (x .id) (x .reply) (order-extends (d ∷ []) (ds ++ es))
-          (order-once (d ∷ (ds ++ es))) (tells-all n l s ds es a (b .1) x y)
+      | inl y ↦ reply-stays (order (d ∷ (ds ++ es))) (order (ds ++ es)) (x .client) (x .id) (x .reply)
+          (order-extends (d ∷ []) (ds ++ es)) (order-once (d ∷ (ds ++ es))) (tells-all n l s ds es a (b .1) x y)
       | inr y ↦ tells-one n (do-all s (reverse ds)) d (ds ++ es) made (b .0) l x (rw append-nil at y)
     ]

@@ -1,17 +1,17 @@
 -- Whatever is in a log, on the way, or in the linearization order was asked by a client, with that command.
-use mathlib.Core.Path.{_≡_, refl, sym, ap, subst, _∙_}
-use mathlib.Core.Logic.{_⊎_, inl, inr}
-use mathlib.Core.Bool.{Bool, true, false, not, _&&_, _||_}
-use mathlib.Core.List.{List, [], _∷_, _++_}
+use mathlib.Core.Path.{_≡_, refl, subst}
+use mathlib.Core.Logic.{inl, inr}
+use mathlib.Core.Bool.{true, _&&_}
+use mathlib.Core.List.{List, [], _∷_}
 use Prim.Native.Nat.{ℕ, _<_}
 use native.Mathlib.Omega.{arith}
 use lib.Dec.{ltb, eqb}
 use Rattle.servers.specs.Store.{Command}
-use Rattle.servers.specs.Server.{Entry, State, Event, timeout, request, comes, restart, garbled, Answer, Message, turned, good-fields, short, up-to, after}
-use Rattle.servers.specs.World.{Program, Group, limits, Happening, World, new-world, seen, says-now, letters, happens, Lived, Sent, In, from}
-use Rattle.servers.specs.World.{Asked, is-asked, was-asked, Happened, there}
-use Rattle.servers.specs.Promise.{readable-world, Good-group, Right, at-server, all-asked}
-use Rattle.servers.specs.Server.{state, new-server}
+use Rattle.servers.specs.Server.{Entry, State, Event, timeout, request, comes, restart, garbled, Answer}
+use Rattle.servers.specs.Server.{state, turned, good-fields, short}
+use Rattle.servers.specs.World.{Program, Group, limits, Happening, World, new-world, seen, says-now, letters, happens}
+use Rattle.servers.specs.World.{Sent, In, from, Asked, is-asked, was-asked, Happened, there}
+use Rattle.servers.specs.Promise.{at-server, all-asked}
 use Rattle.std.proofs.shelf.Tests.{and-parts, false≢true, or-cases, or-left, or-right, eqb-true, ltb-true}
 use Rattle.std.proofs.shelf.Ways.{tells}
 use Rattle.safety.proofs.Letters.{in-either}
@@ -21,13 +21,14 @@ use Rattle.one_order.proofs.Lists.{All, all-more, all-up-to}
 use Rattle.one_order.proofs.Orders.{order-asked}
 use Rattle.one_order.proofs.Applying.{Clients-below}
 use Rattle.one_order.proofs.Entries.{Carries, carries-more, Brings, after-log, carry-answer}
-use Rattle.safety.proofs.Induction.{Step, Was-sent, worlds-by, answers, each-server}
+use Rattle.safety.proofs.Induction.{Was-sent, each-server}
+use Rattle.one_order.proofs.Runs.{Run, Moment, runs-by, says-so}
 
--- an entry that a client asked for, and the client is one of the group's
+-- a client of the group asked for this entry's command, by this number
 abbrev pub Was-asked : Group → List Happening → Entry → Type 0
 Was-asked g past e = (e .client < g .clients) × Happened (request (e .client) (e .id) (e .command)) past
 
--- in every log, and in every letter that was ever sent
+-- so of every entry in every log, and in every letter that was ever sent
 pub record All-asked (g : Group) (w : World) : Type 0 where
   pub logs : (v : ℕ) → All (Was-asked g (w .past)) (at-server g w v .log)
   pub letters : (x : Sent) → In x (w .sent) → Carries (Was-asked g (w .past)) (x .letter .message)
@@ -36,7 +37,7 @@ asked-still : (g : Group) (h : Happening) (past : List Happening) (e : Entry) �
 unfolding Happened
 asked-still g h past e o = (o .0, inr (o .1))
 
--- the entries that an event brings were asked: now, or when the letter was sent that carries them
+-- the entries that an event brings were asked: just now, or before the letter was sent that carries them
 brings : (g : Group) (w : World) (i : ℕ) (s : State) (a : Answer) (e : Event) → All-asked g w → Was-sent i (w .sent) e
     → turned (limits g i) s e ≡ 0 → Brings (Was-asked g (record { at = i; event = e; answer = a } ∷ w .past)) (limits g i) s e
 unfolding Happened
@@ -47,48 +48,52 @@ brings g w i s a (request d k x) o sent q =
     (ltb-true d (g .clients) r, inl refl)
 brings g w i s a (comes h m) o sent q =
     let now : Happening = record { at = i; event = comes h m; answer = a } in
-    carries-more (Was-asked g (w .past)) (Was-asked g (now ∷ w .past)) (asked-still g now (w .past)) m (o .letters _ (sent h m refl))
+    carries-more (Was-asked g (w .past)) (Was-asked g (now ∷ w .past)) (asked-still g now (w .past)) m
+    (o .letters _ (sent h m refl))
 brings g w i s a restart o sent q = tt
 brings g w i s a (garbled n) o sent q = tt
 
-module _ (can : ℕ → Bool) (f : Program) (g : Group) (right : Right can f) (group : Good-group can g) where
-  asked-first : All-asked g new-world
-  unfolding In seen state
-  asked-first = record { logs = λ v. tt; letters = λ x h. elim h [ ] }
+asked-first : (g : Group) → All-asked g new-world
+unfolding In seen state
+asked-first g = record { logs = λ v. tt; letters = λ x h. elim h [ ] }
 
-  asked-next : (w : World) (i : ℕ) (e : Event) → Step f g w i e → All-asked g w → All-asked g (happens f g w i e)
-  asked-next w i e m old =
-      let w′ : World = happens f g w i e in
-      let s : State = at-server g w i in
-      let still = asked-still g (record { at = i; event = e; answer = says-now f g w i e }) (w .past) in
-      let more = λ (v : ℕ). all-more (Was-asked g (w .past)) (Was-asked g (w′ .past)) still (at-server g w v .log) (old .logs v) in
-      let bring = brings g w i s (says-now f g w i e) e old (m .sent) in
-      record {
-        logs = each-server f g w i e (λ v y. All (Was-asked g (w′ .past)) (y .log))
-            (after-log (Was-asked g (w′ .past)) (limits g i) s e (more i) bring) (λ v ne. more v);
-        letters = λ x h. elim (in-either x (w .sent) (from i (letters (says-now f g w i e))) h) [
-          | inl o ↦ carries-more (Was-asked g (w .past)) (Was-asked g (w′ .past)) still (x .letter .message) (old .letters x o)
-          | inr o ↦ carry-answer (Was-asked g (w′ .past)) (limits g i) s e (more i) bring x
-              (subst (λ y. In x (from i (letters y))) (answers right group w i e m) o)
-        ];
-      }
+asked-next : {f : Program} {g : Group} (w : World) (i : ℕ) (e : Event) → Moment f g w i e → All-asked g w
+    → All-asked g (happens f g w i e)
+asked-next {f} {g} w i e m old =
+    let now : Happening = record { at = i; event = e; answer = says-now f g w i e } in
+    let s : State = at-server g w i in
+    let P : Entry → Type 0 = Was-asked g (w .past) in
+    let Q : Entry → Type 0 = Was-asked g (now ∷ w .past) in
+    let still = asked-still g now (w .past) in
+    let more = λ (v : ℕ). all-more P Q still (at-server g w v .log) (old .logs v) in
+    let bring = brings g w i s (says-now f g w i e) e old (m .step .sent) in
+    record {
+      logs = each-server f g w i e (λ v y. All Q (y .log)) (after-log Q (limits g i) s e (more i) bring) (λ v ne. more v);
+      letters = λ x h. elim (in-either x (w .sent) (from i (letters (says-now f g w i e))) h) [
+        | inl o ↦ carries-more P Q still (x .letter .message) (old .letters x o)
+        | inr o ↦ carry-answer Q (limits g i) s e (more i) bring x (subst (λ y. In x (from i (letters y))) (says-so m) o)
+      ];
+    }
 
-  pub entries-asked : {w : World} → Lived f g w → readable-world w → All-asked g w
-  entries-asked = worlds-by f g (All-asked g) asked-first asked-next
+-- Every entry was asked.
+pub entries-asked : {f : Program} {g : Group} {w : World} → Run f g w → All-asked g w
+entries-asked {f} {g} = runs-by (All-asked g) (asked-first g) asked-next
 
-  module _ {w : World} (lived : Lived f g w) (fine : readable-world w) where
-    -- every entry's client has a session
-    pub clients-below : (v : ℕ) → Clients-below (g .clients) (at-server g w v .log)
-    clients-below v = all-more (Was-asked g (w .past)) (λ e. e .client < g .clients) (λ e o. o .0) (at-server g w v .log) (entries-asked lived fine .logs v)
+module _ {f : Program} {g : Group} {w : World} (r : Run f g w) where
+  -- so every entry's client has a session
+  pub clients-below : (v : ℕ) → Clients-below (g .clients) (at-server g w v .log)
+  clients-below v =
+      all-more (Was-asked g (w .past)) (λ e. e .client < g .clients) (λ e o. o .0) (at-server g w v .log) (entries-asked r .logs v)
 
-    -- what is in the linearization order was asked
-    pub linearization-asked : all-asked (w .past) (linearization g w)
-    unfolding linearization committed
-    linearization-asked =
-        let s : State = at-server g w (furthest (at-server g w) (g .servers)) in
-        order-asked (w .past) (committed g w)
-        (all-up-to _ (s .commit) (s .log) (all-more (Was-asked g (w .past)) (λ e. Happened (request (e .client) (e .id) (e .command)) (w .past)) (λ e o. o .1) (s .log)
-        (entries-asked lived fine .logs (furthest (at-server g w) (g .servers)))))
+  -- and every command in the linearization order was asked
+  pub linearization-asked : all-asked (w .past) (linearization g w)
+  unfolding linearization committed
+  linearization-asked =
+      let v : ℕ = furthest (at-server g w) (g .servers) in
+      let s : State = at-server g w v in
+      let P : Entry → Type 0 = λ e. Happened (request (e .client) (e .id) (e .command)) (w .past) in
+      order-asked (w .past) (committed g w)
+      (all-up-to P (s .commit) (s .log) (all-more (Was-asked g (w .past)) P (λ e o. o .1) (s .log) (entries-asked r .logs v)))
 
 -- AS A TEST
 
@@ -98,7 +103,8 @@ happened-asked [] c k x h = elim h [ ]
 happened-asked (h ∷ hs) c k x (inl e) = or-left (is-asked (h .event) c k) (was-asked hs c k) (rw e (grind (arith, tells)))
 happened-asked (h ∷ hs) c k x (inr e) = or-right (is-asked (h .event) c k) (was-asked hs c k) (happened-asked hs c k x e)
 
-pub there-asked : (past : List Happening) (os : List Asked) → all-asked past os → (c k : ℕ) → there os c k ≡ true → was-asked past c k ≡ true
+there-asked : (past : List Happening) (os : List Asked) → all-asked past os → (c k : ℕ) → there os c k ≡ true
+    → was-asked past c k ≡ true
 unfolding all-asked there
 there-asked past [] a c k t = absurd (false≢true t)
 there-asked past (o ∷ os) a c k t =
@@ -107,3 +113,8 @@ there-asked past (o ∷ os) a c k t =
           rw (eqb-true _ _ (p .0), eqb-true _ _ (p .1)) (happened-asked past (o .client) (o .id) (o .command) (a .0)))
       | inr q ↦ there-asked past os (a .1) c k q
     ]
+
+-- What is in the order was asked.
+pub in-order-asked : {f : Program} {g : Group} {w : World} → Run f g w → (c k : ℕ) → there (linearization g w) c k ≡ true
+    → was-asked (w .past) c k ≡ true
+in-order-asked {f} {g} {w} r = there-asked (w .past) (linearization g w) (linearization-asked r)

@@ -1,14 +1,12 @@
--- Which entries are due: those above the applied index, up to the commit index, the oldest first. So applying what is due takes a server from the log up to
--- its applied index to the log up to its commit index. Here alone indices matter.
+-- WHAT IS DUE: the entries above the applied index, up to the commit index, the oldest first. So applying what is due takes a server
+-- from its log up to the applied index to its log up to the commit index. Here alone indices matter.
 use mathlib.Core.Path.{_≡_, refl, sym, ap, subst, _∙_}
 use mathlib.Core.Logic.{_⊎_, inl, inr}
-use mathlib.Core.Bool.{Bool, true, false, _&&_}
+use mathlib.Core.Bool.{true, false, _&&_}
 use mathlib.Core.List.{List, [], _∷_, _++_, append-nil, reverse, reverse-cons}
-use Prim.Native.Nat.{ℕ, zero, suc, _≤_, _<_}
+use Prim.Native.Nat.{ℕ, _≤_, _<_}
 use native.Mathlib.Omega.{arith}
-use lib.Dec.{ltb, leb, eqb}
-use lib.ListN.{length}
-use Rattle.servers.specs.Store.{pick}
+use lib.Dec.{ltb, leb}
 use Rattle.servers.specs.Server.{Entry, Limits, State, Said, last-index, up-to, above, due, do-all, tell-all}
 use Rattle.servers.specs.World.{reply-in, Said-in}
 use Rattle.std.proofs.shelf.Tests.{cases-lt}
@@ -53,7 +51,7 @@ due-is-above lo hi (e ∷ es) r h = go (cases-lt hi (e .index)) (cases-lt lo (e 
     go (inr p) (inr q) ih = rw (due-none lo hi (e ∷ es) r q, up-to-all hi (e ∷ es) p, above-none lo (e ∷ es) q)
 
 -- what is due stands on top of what is applied
-above-applied : (lo hi : ℕ) (l : List Entry) → Contiguous l → lo ≤ hi → above lo (up-to hi l) ++ up-to lo l ≡ up-to hi l
+pub above-applied : (lo hi : ℕ) (l : List Entry) → Contiguous l → lo ≤ hi → above lo (up-to hi l) ++ up-to lo l ≡ up-to hi l
 above-applied lo hi l r h =
     ap (λ x. above lo (up-to hi l) ++ x) (sym (up-to-up-to lo hi l h)) ∙ above-up-to lo (up-to hi l) (contiguous-up-to hi l r)
 

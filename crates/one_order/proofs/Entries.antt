@@ -1,24 +1,24 @@
--- Where entries come from. A server makes an entry of a request only; otherwise logs and letters pass on what they have. So what holds of every entry in the logs
--- and letters so far, and of every entry that a request can make, holds of every entry after an event. P is any property of entries.
-use mathlib.Core.Path.{_≡_, refl, sym, ap, subst, _∙_}
+-- WHERE ENTRIES COME FROM: a server makes an entry of a request only; otherwise logs and letters pass on what they have. So what holds
+-- of every entry in the logs and letters so far, and of every entry that a request can make, holds of every entry after an event.
+-- P is any property of entries.
+use mathlib.Core.Path.{_≡_, sym, subst}
 use mathlib.Core.Logic.{_⊎_, inl, inr}
-use mathlib.Core.Bool.{Bool, true, false, not, _&&_, _||_}
-use mathlib.Core.List.{List, [], _∷_, _++_}
-use Prim.Native.Nat.{ℕ, zero, suc, _-_, _≤_, _<_}
-use lib.Dec.{ltb, leb, eqb}
-use Rattle.servers.specs.Store.{pick, Command}
-use Rattle.servers.specs.Server.{Entry, Limits, State, Letter, Message, ask-vote, vote, append, appended, Event, timeout, request, comes, restart, garbled}
-use Rattle.servers.specs.Server.{Answer, not-leader, does, up-to, entry-at, term-is, next-for, back, to-server, first-step, first-letters, settles}
+use mathlib.Core.Bool.{not, _&&_, _||_}
+use mathlib.Core.List.{List, [], _++_}
+use Prim.Native.Nat.{ℕ, _-_}
+use lib.Dec.{ltb, eqb}
+use Rattle.servers.specs.Server.{Entry, Limits, State, Letter, Message, ask-vote, vote, append, appended}
+use Rattle.servers.specs.Server.{Event, timeout, request, comes, restart, garbled, Answer, not-leader, does}
+use Rattle.servers.specs.Server.{up-to, entry-at, term-is, next-for, back, to-server, first-step, first-letters, settles}
 use Rattle.servers.specs.Server.{sends-now, sent-now, after-all, ends-there, is-request, stepped, doing, turned, after, answer}
 use Rattle.servers.specs.World.{Sent, In, from, letters}
 use Rattle.std.proofs.shelf.Tests.{eqb-true}
 use Rattle.safety.proofs.Tests.{pick-by}
-use Rattle.safety.proofs.Letters.{in-either, from-append, all-others}
-use Rattle.safety.proofs.Letters.{all-one}
+use Rattle.safety.proofs.Letters.{in-either, from-append, all-one, all-others}
 use Rattle.safety.proofs.Invariant.{View}
-use Rattle.safety.proofs.Unseen.{finished-unseen, sent-unseen}
+use Rattle.safety.proofs.Unseen.{finished-unseen}
 use Rattle.one_order.proofs.Lists.{All, all-more, all-append, all-up-to, all-above}
-use Rattle.one_order.proofs.Steps.{Core, core, made-entry, first-by, settles-by}
+use Rattle.one_order.proofs.Steps.{made-entry, first-by, settles-by}
 
 -- every entry of a message
 abbrev pub Carries : (Entry → Type 0) → Message → Type 0
@@ -42,12 +42,12 @@ module _ (P : Entry → Type 0) (l : Limits) (s : State) where
   Brings restart = Unit {0}
   Brings (garbled n) = Unit {0}
 
-  -- LOGS
+  -- LOGS: what is in the log after an event was in the log, in the message, or in the request
 
   first-log : (e : Event) → All P (s .log) → Brings e → All P (first-step l s e .log)
   first-log e a b =
-      first-by (λ y. All P (y .log)) l s e a (λ c k x q. (subst Brings q b, a))
-      (λ h t i u c es log n q from′ up. accepted i es log (subst Brings q b) from′)
+      first-by (λ y. All P (y .log)) l s a e (λ c k x q. (subst Brings q b, a))
+      (λ h t i u c es log n q how up. accepted i es log (subst Brings q b) how)
     where
       accepted : (i : ℕ) (es log : List Entry) → All P es → (log ≡ es) ⊎ (log ≡ es ++ up-to i (s .log)) → All P log
       accepted i es log b (inl p) = subst (All P) (sym p) b
@@ -55,7 +55,8 @@ module _ (P : Entry → Type 0) (l : Limits) (s : State) where
 
   all-log : (y : State) → All P (y .log) → All P (after-all l y .log)
   all-log y a =
-      subst (λ (v : View). All P (v .log)) (sym (finished-unseen (sent-now (settles l y)))) (settles-by (λ c. All P (c .log)) l y (λ n up. a))
+      subst (λ (v : View). All P (v .log)) (sym (finished-unseen (sent-now (settles l y))))
+      (settles-by (λ c. All P (c .log)) l y (λ n up. a))
 
   pub after-log : (e : Event) → All P (s .log) → (turned l s e ≡ 0 → Brings e) → All P (after l s e .log)
   after-log e a b =
@@ -113,4 +114,5 @@ module _ (P : Entry → Type 0) (l : Limits) (s : State) where
   pub carry-answer : (e : Event) → All P (s .log) → (turned l s e ≡ 0 → Brings e) → Carry (letters (answer l s e))
   unfolding letters
   carry-answer e a b =
-      pick-by (λ (y : Answer). Carry (letters y)) (eqb (turned l s e) 0) (doing l s e) _ (λ q. carry-doing e a (b (eqb-true _ _ q))) (λ q. carry-none)
+      pick-by (λ (y : Answer). Carry (letters y)) (eqb (turned l s e) 0) (doing l s e) _
+      (λ q. carry-doing e a (b (eqb-true _ _ q))) (λ q. carry-none)

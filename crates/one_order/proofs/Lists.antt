@@ -43,4 +43,5 @@ all-up-to P n (e ∷ es) a = pick-by (λ y. All P y) (leb (e .index) n) (e ∷ e
 pub all-above : (P : Entry → Type 0) (n : ℕ) (l : List Entry) → All P l → All P (above n l)
 unfolding above
 all-above P n [] a = tt
-all-above P n (e ∷ es) a = pick-by (λ y. All P y) (ltb n (e .index)) (e ∷ above n es) [] (λ q. (a .0, all-above P n es (a .1))) (λ q. tt)
+all-above P n (e ∷ es) a = pick-by (λ y. All P y) (ltb n (e .index)) (e ∷ above n es) []
+    (λ q. (a .0, all-above P n es (a .1))) (λ q. tt)

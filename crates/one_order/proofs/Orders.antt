@@ -1,17 +1,16 @@
--- The order of a log: which of its entries count. An entry counts if its number is new to its client's session, so the numbers of each client rise along the
--- order whatever the log is, and entries on top of a log only put commands on top of its order.
+-- THE ORDER OF A LOG: which of its entries count. An entry counts if its number is new to its client's session. So the numbers of
+-- each client rise along the order, whatever the log is, and entries on top of a log only put commands on top of its order.
 use mathlib.Core.Path.{_≡_, refl, ap}
-use mathlib.Core.Bool.{Bool, true, false}
+use mathlib.Core.Bool.{true}
 use mathlib.Core.List.{List, [], _∷_, _++_}
-use Prim.Native.Nat.{ℕ}
 use Rattle.servers.specs.Store.{pick}
-use Rattle.servers.specs.Server.{Entry, Event, request}
-use Rattle.servers.specs.World.{Asked, Happening, Happened, each-once}
+use Rattle.servers.specs.Server.{Entry, request}
+use Rattle.servers.specs.World.{Happening, Happened, each-once}
 use Rattle.servers.specs.Promise.{all-asked}
 use Rattle.safety.proofs.Tests.{bool-by, pick-by}
 use Rattle.one_order.specs.Order.{session, new-to, asked-of, order, Extends}
 use Rattle.one_order.proofs.Lists.{All}
-use Rattle.one_order.proofs.Sequences.{Rises, rises-once}
+use Rattle.one_order.proofs.Sessions.{Rises, rises-once}
 
 pub order-rises : (es : List Entry) → Rises (order es)
 unfolding order
@@ -30,7 +29,8 @@ unfolding order
 order-extends [] es = ([], refl)
 order-extends (d ∷ ds) es =
     let (more, p) = order-extends ds es in
-    pick-by (λ y. Extends y (order es)) (new-to (session (order (ds ++ es)) (d .client)) (d .id)) (asked-of d ∷ order (ds ++ es)) (order (ds ++ es))
+    pick-by (λ y. Extends y (order es)) (new-to (session (order (ds ++ es)) (d .client)) (d .id))
+    (asked-of d ∷ order (ds ++ es)) (order (ds ++ es))
     (λ q. (asked-of d ∷ more, ap (λ y. asked-of d ∷ y) p)) (λ q. (more, p))
 
 -- what is in the order was asked, if the entries were

@@ -1,22 +1,27 @@
--- The linearization order, as one function of what happened. It is read off the servers' logs: of the log that is committed furthest, the committed part; of
--- that, the commands that are new to their clients' sessions. Assumes nothing: these are definitions.
+-- The linearization order, as one function of what happened. It is read off the servers' logs: of the log that is
+-- committed furthest, the committed part; of that, the commands that are new to their clients' sessions.
+-- Assumes nothing: these are definitions.
 use mathlib.Core.Path.{_≡_}
-use mathlib.Core.Bool.{Bool, true, false, not, _&&_, _||_}
+use mathlib.Core.Bool.{Bool, true, not, _&&_, _||_}
 use mathlib.Core.List.{List, [], _∷_, _++_}
 use Prim.Native.Nat.{ℕ, zero, suc}
 use lib.Dec.{ltb, eqb}
-use Rattle.servers.specs.Store.{pick, reply}
+use Rattle.servers.specs.Store.{pick, Store, reply}
 use Rattle.servers.specs.Server.{Entry, Cached, State, no-cached, up-to}
-use Rattle.servers.specs.World.{Group, Happening, World, Asked, store-after}
+use Rattle.servers.specs.World.{Group, World, Asked, store-after}
 use Rattle.servers.specs.Promise.{at-server}
+use Rattle.safety.specs.Safety.{Until}
 
--- the session of a client at one server that did these commands, the last first, and no others: the number and reply of the client's last command
+-- what a client's session remembers of a command that was done on a store: its number and reply
+abbrev pub remembered : Asked → Store → Cached
+remembered o s = record { there = true; id = o .id; reply = reply (o .command) s }
+
+-- the session of a client at one server that did these commands, the last first, and no others: of the client's last command
 unfoldable pub session : List Asked → ℕ → Cached
 session [] c = no-cached
-session (o ∷ os) c =
-    pick (eqb c (o .client)) (record { there = true; id = o .id; reply = reply (o .command) (store-after os) }) (session os c)
+session (o ∷ os) c = pick (eqb c (o .client)) (remembered o (store-after os)) (session os c)
 
--- whether a number is higher than any that the session knows
+-- whether a number is higher than the one that a session knows
 abbrev pub new-to : Cached → ℕ → Bool
 new-to x k = not (x .there) || ltb (x .id) k
 
@@ -27,6 +32,10 @@ asked-of e = record { client = e .client; id = e .id; command = e .command }
 unfoldable pub order : List Entry → List Asked
 order [] = []
 order (e ∷ es) = pick (new-to (session (order es) (e .client)) (e .id)) (asked-of e ∷ order es) (order es)
+
+-- what a server has done: the order of its log up to the applied index
+abbrev pub applied-order : State → List Asked
+applied-order s = order (up-to (s .applied) (s .log))
 
 -- of the first n servers, the first whose commit index is highest
 unfoldable pub furthest : (ℕ → State) → ℕ → ℕ
@@ -47,9 +56,10 @@ linearization g w = order (committed g w)
 abbrev pub Extends : List Asked → List Asked → Type 0
 Extends big small = (more : List Asked) × (big ≡ more ++ small)
 
--- a world in which more has happened since. So is every world that is reached from w by `happens`
+-- a world in which what happened in w is what happened until some moment. So is every world that `happens` leads to from w, in
+-- any number of steps
 abbrev pub Later : World → World → Type 0
-Later w w′ = (since : List Happening) × (w′ .past ≡ since ++ w .past)
+Later w w′ = Until (w .past) (w′ .past)
 
 -- how often a client's number stands in an order
 unfoldable pub times : List Asked → ℕ → ℕ → ℕ
