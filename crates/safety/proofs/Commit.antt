@@ -14,7 +14,7 @@ use Rattle.std.proofs.shelf.Tests.{and-parts}
 use Rattle.std.proofs.shelf.Ways.{tells}
 use Rattle.safety.proofs.Tests.{bool-by, pick-by}
 use Rattle.safety.proofs.Logs.{Contiguous, entry-last, entry-deeper, entry-within}
-use Rattle.safety.proofs.Quorums.{quorum-of-matches}
+use Rattle.safety.proofs.Quorums.{Most, quorum-of-matches}
 use Rattle.safety.proofs.Ghost.{Acked, Committed-prefix}
 use Rattle.safety.proofs.Turn.{Before, Turn, change}
 
@@ -23,7 +23,7 @@ record Commits-to (l : Limits) (s : State) (n : ℕ) : Type 0 where
   entry : Entry
   there : entry-at n (s .log) ≡ entry ∷ []
   of-term : entry .term ≡ s .term
-  most : l .servers / 2 < have-it n (s .matches)
+  most : Most (l .servers) (have-it n (s .matches))
   some : 0 < n
 
 -- it stays, or moves there; `es` is the part of the log that is still to be looked at

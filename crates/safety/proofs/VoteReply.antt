@@ -5,7 +5,7 @@ use mathlib.Core.Path.{_≡_, refl, sym, ap, subst, _∙_}
 use mathlib.Core.Logic.{_⊎_, inr}
 use mathlib.Core.Bool.{Bool, true, false}
 use mathlib.Core.List.{List, []}
-use Prim.Native.Nat.{ℕ, _/_, _≤_, _<_}
+use Prim.Native.Nat.{ℕ, _≤_, _<_}
 use native.Mathlib.Omega.{arith}
 use lib.Dec.{ltb, eqb}
 use lib.ListN.{length}
@@ -16,7 +16,7 @@ use Rattle.std.proofs.shelf.Ways.{tells}
 use Rattle.safety.proofs.Tests.{bool-by, pick-by}
 use Rattle.safety.proofs.Tables.{length-many, length-set-at, nth-set-by, nth-many-by}
 use Rattle.safety.proofs.Logs.{up-to-all, agree-at-zero}
-use Rattle.safety.proofs.Quorums.{Quorum, quorums-meet, quorum-of-votes}
+use Rattle.safety.proofs.Quorums.{Most, Quorum, quorums-meet, quorum-of-votes}
 use Rattle.safety.proofs.Ghost.{nothing, just, is-nothing, Ballot, Election, Voted-for, Ack}
 use Rattle.safety.proofs.Invariant.{Candidate, Server-invariant, Message-invariant, view}
 use Rattle.safety.proofs.Turn.{Before, Turn, change, advance}
@@ -24,7 +24,7 @@ use Rattle.safety.proofs.LeaderLog.{Leads-with, leads}
 
 -- a candidate that has a quorum of votes
 module _ {k me : ℕ} {was : Before} {s : State} {sent : List Sent} (a : Turn k me was s sent)
-    (c : Candidate (a .γ) me (s .term) (s .log) (s .votes)) (most : k / 2 < count (s .votes)) where
+    (c : Candidate (a .γ) me (s .term) (s .log) (s .votes)) (most : Most k (count (s .votes))) where
   its-quorum : Quorum k (Voted-for (a .γ) (s .term) me)
   its-quorum = quorum-of-votes (Voted-for (a .γ) (s .term) me) (s .votes) (a .mine .votes-size) most (c .votes-cast)
 
