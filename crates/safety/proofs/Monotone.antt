@@ -1,9 +1,9 @@
--- TERMS AND COMMIT INDICES NEVER FALL, whatever happens. By the definitions alone: neither the invariant nor that the program is right is
--- asked for.
-use mathlib.Core.Path.{_≡_, sym, subst, _∙_}
-use mathlib.Core.Bool.{Bool, true}
+-- TERMS AND COMMIT INDICES NEVER FALL, and a vote once given stays as long as the term, whatever happens. By the definitions alone:
+-- neither the invariant nor that the program is right is asked for.
+use mathlib.Core.Path.{_≡_, sym, ap, subst, _∙_}
+use mathlib.Core.Bool.{Bool, true, not, _&&_}
 use mathlib.Core.List.{List, [], _∷_, _++_}
-use Prim.Native.Nat.{ℕ, suc, _-_, _≤_}
+use Prim.Native.Nat.{ℕ, suc, _-_, _≤_, _<_}
 use native.Mathlib.Omega.{arith}
 use lib.Dec.{ltb, eqb}
 use Rattle.servers.specs.Store.{pick}
@@ -11,28 +11,38 @@ use Rattle.servers.specs.Server.{Entry, Limits, State, Message, ask-vote, vote,
 use Rattle.servers.specs.Server.{garbled, last-index, up-to, entry-at, term-is, has-new, at-least, at-most, nth, next-for, grants}
 use Rattle.servers.specs.Server.{settled-to, with-term, advanced, following, with-log, with-voted, with-match, with-next, with-commit}
 use Rattle.servers.specs.Server.{with-send, with-request, after-append, voted-on, heard, wants, settles, sent-now, after-all, ends-there}
-use Rattle.servers.specs.Server.{first-step, stepped, turned, after}
+use Rattle.servers.specs.Server.{first-step, stepped, turned, after, empty, as-new, may-vote}
 use Rattle.servers.specs.World.{Program, Group, limits, Happening, World, new-world, happens, Lived}
 use Rattle.servers.specs.Promise.{at-server, readable-world}
+use Rattle.std.proofs.shelf.Tests.{and-parts}
 use Rattle.std.proofs.shelf.Ways.{tells}
 use Rattle.safety.specs.Safety.{Until, at-moment}
-use Rattle.safety.proofs.Tests.{pick-by}
+use Rattle.safety.proofs.Tests.{bool-by, pick-by}
 use Rattle.safety.proofs.Invariant.{View, view}
 use Rattle.safety.proofs.Unseen.{finished-unseen, sent-unseen}
 use Rattle.safety.proofs.Induction.{Step, worlds-by, each-server}
 
+-- in one term a vote stays
+abbrev pub Vote-stays : State → View → Type 0
+Vote-stays s y = s .term ≡ y .term → (c : ℕ) → s .voted ≡ c ∷ [] → y .voted ≡ c ∷ []
+
 -- from state s to what is seen of another
-abbrev Rises-to : State → View → Type 0
-Rises-to s y = (s .term ≤ y .term) × (s .commit ≤ y .commit)
+abbrev pub Rises-to : State → View → Type 0
+Rises-to s y = (s .term ≤ y .term) × (s .commit ≤ y .commit) × Vote-stays s y
 
 abbrev pub Rises : State → State → Type 0
 Rises s y = Rises-to s (view y)
 
 same : (s : State) → Rises s s
-same s = (omega arith, omega arith)
+same s = (omega arith, omega arith, λ e c q. q)
 
 rises-trans : (a b c : State) → Rises a b → Rises b c → Rises a c
-rises-trans a b c p q = let p0 = p .0 in let p1 = p .1 in let q0 = q .0 in let q1 = q .1 in (omega arith, omega arith)
+rises-trans a b c p q =
+    let p0 = p .0 in
+    let p1 = p .1 in
+    let q0 = q .0 in
+    let q1 = q .1 in
+    (omega arith, omega arith, λ e v had. q .2 (omega arith) v (p .2 (omega arith) v had))
 
 -- whichever is chosen
 chosen : (s : State) (b : Bool) (x y : State) → Rises s x → Rises s y → Rises s (pick b x y)
@@ -41,7 +51,9 @@ chosen s b x y p q = pick-by (Rises s) b x y (λ e. p) (λ e. q)
 module _ (l : Limits) (s : State) where
   advanced-rises : (t : ℕ) → Rises s (advanced t s)
   advanced-rises t =
-      pick-by (Rises s) (ltb (s .term) t) (with-term t s) s (λ e. (grind (arith, tells), omega arith)) (λ e. same s)
+      pick-by (Rises s) (ltb (s .term) t) (with-term t s) s
+      (λ e. let up : s .term < t = grind (arith, tells) in (omega arith, omega arith, λ q. absurd (omega arith)))
+      (λ e. same s)
 
   append-rises : (h t : ℕ) (es : List Entry) (c : ℕ) (log : List Entry) → Rises s (after-append s h t es c log)
   append-rises h t es c log =
@@ -49,13 +61,29 @@ module _ (l : Limits) (s : State) where
       let up : s .commit ≤ n = grind (arith, tells) in
       chosen s (has-new s es) _ _
       (pick-by (λ (y : State). Rises s (following h (with-log log n y))) (ltb (s .term) t) (with-term t s) s
-      (λ e. (grind (arith, tells), up)) (λ e. (omega arith, up)))
+      (λ e. let more : s .term < t = grind (arith, tells) in (omega arith, up, λ q. absurd (omega arith)))
+      (λ e. (omega arith, up, λ q v had. had)))
       (advanced-rises t)
+
+  -- who is voted for in a term in which the server has voted is whom it voted for
+  vote-rises : (h t i u : ℕ) → grants s h t i u ≡ true → Rises s (with-voted h (advanced t s))
+  vote-rises h t i u =
+      bool-by (λ b. let a : State = pick b (with-term t s) s in
+      (not (ltb t (s .term)) && ((empty (a .leader) && as-new i u a) && may-vote (a .voted) h)) ≡ true → Rises s (with-voted h a))
+      (ltb (s .term) t)
+      (λ e g. let up : s .term < t = grind (arith, tells) in (omega arith, omega arith, λ q. absurd (omega arith)))
+      (λ e g. (omega arith, omega arith, λ q c had. again c had (and-parts (empty (s .leader) && as-new i u s) _ (and-parts _ _ g .1) .1)))
+    where
+      again : (c : ℕ) → s .voted ≡ c ∷ [] → may-vote (s .voted) h ≡ true → h ∷ [] ≡ c ∷ []
+      again c had may =
+          let it : may-vote (c ∷ []) h ≡ true = rw had at may in
+          let same : c ≡ h = grind (arith, tells) in
+          ap (λ y. y ∷ []) (sym same)
 
   message-rises : (h : ℕ) (m : Message) → Rises s (heard l s h m)
   message-rises h (ask-vote t i u) =
       chosen s (ltb t (s .term)) s _ (same s)
-      (chosen s (grants s h t i u) (with-voted h (advanced t s)) _ (advanced-rises t) (advanced-rises t))
+      (pick-by (Rises s) (grants s h t i u) (with-voted h (advanced t s)) (advanced t s) (vote-rises h t i u) (λ e. advanced-rises t))
   message-rises h (vote t ok) =
       chosen s (ltb (s .term) t) _ _ (advanced-rises t)
       (chosen s (ltb t (s .term)) s _ (same s) (chosen s (eqb (s .kind) 1) (voted-on l h ok s) s (same s) (same s)))
@@ -70,7 +98,7 @@ module _ (l : Limits) (s : State) where
       (advanced-rises t)
 
   first-rises : (e : Event) → Rises s (first-step l s e)
-  first-rises timeout = chosen s (eqb (s .kind) 2) (with-send true s) (wants l s) (same s) (omega arith, omega arith)
+  first-rises timeout = chosen s (eqb (s .kind) 2) (with-send true s) (wants l s) (same s) (omega arith, omega arith, λ q. absurd (omega arith))
   first-rises (request c k x) = chosen s (eqb (s .kind) 2) (with-request l c k x s) s (same s) (same s)
   first-rises (comes h m) = message-rises h m
   first-rises restart = same s
@@ -85,7 +113,7 @@ settled-up l s (e ∷ es) = let ih = settled-up l s es in grind (arith, tells)
 rest-rises : (l : Limits) (s : State) → Rises s (after-all l s)
 rest-rises l s =
     subst (Rises-to s) (sym (finished-unseen (sent-now (settles l s)) ∙ sent-unseen (settles l s)))
-    (chosen s (eqb (s .kind) 2) (with-commit (settled-to l s (s .log)) s) s (omega arith, settled-up l s (s .log)) (same s))
+    (chosen s (eqb (s .kind) 2) (with-commit (settled-to l s (s .log)) s) s (omega arith, settled-up l s (s .log), λ q c had. had) (same s))
 
 pub event-rises : (l : Limits) (s : State) (e : Event) → Rises s (after l s e)
 event-rises l s e =

@@ -13,7 +13,7 @@ use Rattle.servers.specs.Promise.{Good-group, Right, readable-world, at-server,
 use Rattle.std.proofs.shelf.Tests.{false≢true}
 use Rattle.std.proofs.shelf.Ways.{tells}
 use Rattle.safety.specs.Safety.{Until, at-moment, Of-moments-in-order, Election-safety, Leader-append-only, Log-matching}
-use Rattle.safety.specs.Safety.{Leader-completeness, Later-leader-completeness, State-machine-safety, Commits-stay}
+use Rattle.safety.specs.Safety.{Leader-completeness, Later-leader-completeness, State-machine-safety, Commits-stay, One-vote}
 use Rattle.safety.proofs.Logs.{At-most-one, entry-at-most-one, entry-within, up-to-all, agree-below, agree-at-zero}
 use Rattle.safety.proofs.Ghost.{just, Election, Ghost, Committed-prefix}
 use Rattle.safety.proofs.Invariant.{Valid-log}
@@ -190,3 +190,10 @@ stays-since can f g w right group lived fine m um i =
 pub commits-stay : Commits-stay
 unfolding Commits-stay
 commits-stay = in-order Stays stays-since
+
+abbrev Votes-once : (ℕ → State) → (ℕ → State) → Type 0
+Votes-once a b = (i c : ℕ) → a i .term ≡ b i .term → a i .voted ≡ c ∷ [] → b i .voted ≡ c ∷ []
+
+pub one-vote : One-vote
+unfolding One-vote
+one-vote = in-order Votes-once (λ can f g w right group lived fine m um i c e had. rises-since f g lived fine m um i .2 e c had)

@@ -2,7 +2,7 @@
 -- once. Each is a statement, a type whose proof is owed. Assumes nothing.
 use mathlib.Core.Path.{_≡_}
 use mathlib.Core.Bool.{Bool, true}
-use mathlib.Core.List.{List, [], _++_}
+use mathlib.Core.List.{List, [], _∷_, _++_}
 use Prim.Native.Nat.{ℕ, _≤_, _<_}
 use Rattle.servers.specs.Server.{State, state, last-index, up-to, entry-at}
 use Rattle.servers.specs.World.{Program, Group, limits, Happening, World, Lived, seen}
@@ -31,6 +31,10 @@ Of-moments-in-order p =
 -- ELECTION SAFETY: of one term at most one server ever leads
 unfoldable pub Election-safety : Type 0
 Election-safety = Of-moments (λ a b. (i j : ℕ) → a i .kind ≡ 2 → b j .kind ≡ 2 → a i .term ≡ b j .term → i ≡ j)
+
+-- ONE VOTE IN A TERM: whom a server voted for in a term it has voted for as long as it is in that term, restarts or not
+unfoldable pub One-vote : Type 0
+One-vote = Of-moments-in-order (λ a b. (i c : ℕ) → a i .term ≡ b i .term → a i .voted ≡ c ∷ [] → b i .voted ≡ c ∷ [])
 
 -- LEADER APPEND-ONLY: while a server leads a term it only adds to its log
 unfoldable pub Leader-append-only : Type 0
