@@ -98,7 +98,8 @@ module _ (l : Limits) (s : State) where
       (advanced-rises t)
 
   first-rises : (e : Event) → Rises s (first-step l s e)
-  first-rises timeout = chosen s (eqb (s .kind) 2) (with-send true s) (wants l s) (same s) (omega arith, omega arith, λ q. absurd (omega arith))
+  first-rises timeout =
+      chosen s (eqb (s .kind) 2) (with-send true s) (wants l s) (same s) (omega arith, omega arith, λ q. absurd (omega arith))
   first-rises (request c k x) = chosen s (eqb (s .kind) 2) (with-request l c k x s) s (same s) (same s)
   first-rises (comes h m) = message-rises h m
   first-rises restart = same s
@@ -113,7 +114,8 @@ settled-up l s (e ∷ es) = let ih = settled-up l s es in grind (arith, tells)
 rest-rises : (l : Limits) (s : State) → Rises s (after-all l s)
 rest-rises l s =
     subst (Rises-to s) (sym (finished-unseen (sent-now (settles l s)) ∙ sent-unseen (settles l s)))
-    (chosen s (eqb (s .kind) 2) (with-commit (settled-to l s (s .log)) s) s (omega arith, settled-up l s (s .log), λ q c had. had) (same s))
+    (chosen s (eqb (s .kind) 2) (with-commit (settled-to l s (s .log)) s) s
+    (omega arith, settled-up l s (s .log), λ q c had. had) (same s))
 
 pub event-rises : (l : Limits) (s : State) (e : Event) → Rises s (after l s e)
 event-rises l s e =
