@@ -1,6 +1,12 @@
 // Texts by names in a part of lent words: the commands of the store, against its definitions.
 ghost use Rattle.store.specs.Laws.{Region-laws};
 
+pub mod change;
+pub mod find;
+pub mod index;
+pub mod reply;
+pub mod row;
+
 // What a region of words owes of any command.
 pub fn region_stands() -> u8
     ensures { λ _. ⌜ Region-laws ⌝ }
