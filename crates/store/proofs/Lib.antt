@@ -5,3 +5,4 @@ pub mod RowNumbers
 pub mod Regions
 pub mod Shifts
 pub mod Reading
+pub mod Writing

@@ -44,7 +44,7 @@ Nth r p = getD (items-of r) p blank
 abbrev pub Row-place : List ℕ → ℕ → ℕ
 Row-place r p = 2 + capacity r + 42 * getD (index-of r) p 0
 
-nth-is : (r : List ℕ) (p : ℕ) → Held r → p < count r → Nth r p ≡ getD (rows-of r) (getD (index-of r) p 0) blank
+pub nth-is : (r : List ℕ) (p : ℕ) → Held r → p < count r → Nth r p ≡ getD (rows-of r) (getD (index-of r) p 0) blank
 nth-is r p o h = item-at (capacity r) (count r) (index-of r) (rows-of r) (o .parts) p h
 
 pub nth-good : (r : List ℕ) (p : ℕ) → Held r → p < count r → Good-item (Nth r p)
@@ -83,18 +83,18 @@ pub below-mid : (s : Store) (k : List ℕ) (m j : ℕ) → Sorted s → m < leng
     → less-text (getD s j blank .key) k ≡ true
 below-mid s k m j o h l e =
     ⊎-elim (λ (p : j < m). less-trans (getD s j blank .key) (getD s m blank .key) k (sorted-at s j m o p h) e)
-        (λ (p : m ≤ j). let q : j ≡ m = omega arith in rw q e) (cases-lt j m)
+    (λ (p : m ≤ j). let q : j ≡ m = omega arith in rw q e) (cases-lt j m)
 
 pub above-mid : (s : Store) (k : List ℕ) (m j : ℕ) → Sorted s → m ≤ j → j < length s → less-text (getD s m blank .key) k ≡ false
     → less-text (getD s j blank .key) k ≡ false
 above-mid s k m j o h l e =
     ⊎-elim
-        (λ (p : m < j).
-            ⊎-elim
-                (λ t. absurd (both-ways (less-text (getD s m blank .key) k) e
-                    (less-trans (getD s m blank .key) (getD s j blank .key) k (sorted-at s m j o p l) t)))
-                (λ f. f) (cases-bool (less-text (getD s j blank .key) k)))
-        (λ (p : j ≤ m). let q : j ≡ m = omega arith in rw q e) (cases-lt m j)
+    (λ (p : m < j).
+    ⊎-elim
+    (λ t. absurd (both-ways (less-text (getD s m blank .key) k) e
+    (less-trans (getD s m blank .key) (getD s j blank .key) k (sorted-at s m j o p l) t)))
+    (λ f. f) (cases-bool (less-text (getD s j blank .key) k)))
+    (λ (p : j ≤ m). let q : j ≡ m = omega arith in rw q e) (cases-lt m j)
 
 pub place-found : (k : List ℕ) (r : List ℕ) (lo : ℕ) → Held r → lo ≤ count r
     → ((j : ℕ) → j < lo → less-text (Nth r j .key) k ≡ true) → ((j : ℕ) → lo ≤ j → j < count r → less-text (Nth r j .key) k ≡ false)

@@ -27,18 +27,18 @@ pub right-more : (i c : ℕ) (is m : List ℕ) → 0 < i → i ≤ c → c < len
 right-more i c is m h k l e =
     let z : List ℕ = take (c - i) (drop i is) ++ drop (c + 1) is in
     let v : getD (take (i + 1) is ++ z) (i - 1) 0 ≡ getD is (i - 1) 0 =
-        getD-append-left (take (i + 1) is) z 0 (i - 1) (let t = length-take-le (i + 1) is (omega arith) in omega arith)
-        ∙ getD-take (i + 1) is (i - 1) 0 (omega arith) in
+    getD-append-left (take (i + 1) is) z 0 (i - 1) (let t = length-take-le (i + 1) is (omega arith) in omega arith)
+    ∙ getD-take (i + 1) is (i - 1) 0 (omega arith) in
     let j : i - 1 + 1 ≡ i = omega arith in
     let s : c - (i - 1) ≡ suc (c - i) = omega arith in
     let d : drop (i - 1) is ≡ getD is (i - 1) 0 ∷ drop i is =
-        drop-more is (i - 1) 0 (omega arith) ∙ ap (λ (n : ℕ). getD is (i - 1) 0 ∷ drop n is) j in
+    drop-more is (i - 1) 0 (omega arith) ∙ ap (λ (n : ℕ). getD is (i - 1) 0 ∷ drop n is) j in
     let t : take (c - (i - 1)) (drop (i - 1) is) ≡ getD is (i - 1) 0 ∷ take (c - i) (drop i is) = rw (s, d) refl in
     ap (λ (ys : List ℕ). set ys i (getD ys (i - 1) 0)) e
     ∙ (ap (λ (w : ℕ). set (take (i + 1) is ++ z) i w) v
     ∙ (set-front i (getD is (i - 1) 0) is z (omega arith)
     ∙ sym (ap (λ (n : ℕ). take n is ++ (take (c - (i - 1)) (drop (i - 1) is) ++ drop (c + 1) is)) j
-        ∙ ap (λ (ys : List ℕ). take i is ++ (ys ++ drop (c + 1) is)) t)))
+    ∙ ap (λ (ys : List ℕ). take i is ++ (ys ++ drop (c + 1) is)) t)))
 
 pub right-all : (p c : ℕ) (is m : List ℕ) → p ≤ c → c < length is → m ≡ Right p c is → set m p (getD is c 0) ≡ opened p c is
 right-all p c is m h k e =
@@ -67,9 +67,9 @@ set-left p i v is h k =
     let a : List ℕ = take p is in let b : List ℕ = take (i - 1 - p) (drop (p + 1) is) in
     let j : i - 1 + 1 ≡ i = omega arith in
     let d : drop (i - 1) is ≡ getD is (i - 1) 0 ∷ drop i is =
-        drop-more is (i - 1) 0 (omega arith) ∙ ap (λ (n : ℕ). getD is (i - 1) 0 ∷ drop n is) j in
+    drop-more is (i - 1) 0 (omega arith) ∙ ap (λ (n : ℕ). getD is (i - 1) 0 ∷ drop n is) j in
     ap (λ (ys : List ℕ). set ys (i - 1) v)
-        (sym (append-assoc a b (drop (i - 1) is)) ∙ ap (λ (ys : List ℕ). (a ++ b) ++ ys) d)
+    (sym (append-assoc a b (drop (i - 1) is)) ∙ ap (λ (ys : List ℕ). (a ++ b) ++ ys) d)
     ∙ (set-at (a ++ b) (getD is (i - 1) 0) (drop i is) v (i - 1) (length-moved p i is h k) ∙ append-assoc a b (v ∷ drop i is))
 
 pub left-more : (p i : ℕ) (is m : List ℕ) → p < i → i < length is → m ≡ Left p i is → set m (i - 1) (getD m i 0) ≡ Left p (i + 1) is
@@ -77,21 +77,21 @@ left-more p i is m h k e =
     let a : List ℕ = take p is in let b : List ℕ = take (i - 1 - p) (drop (p + 1) is) in
     let g : i - (i - 1) ≡ 1 = omega arith in let j : i - 1 + 1 ≡ i = omega arith in
     let v : getD (Left p i is) i 0 ≡ getD is i 0 =
-        ap (λ (ys : List ℕ). getD ys i 0) (sym (append-assoc a b (drop (i - 1) is)))
-        ∙ (getD-append-right (a ++ b) (drop (i - 1) is) (i - 1) i 0 (length-moved p i is h (omega arith)) (omega arith)
-        ∙ (ap (λ (n : ℕ). getD (drop (i - 1) is) n 0) g ∙ (getD-drop (i - 1) is 1 0 ∙ ap (λ (n : ℕ). getD is n 0) j))) in
+    ap (λ (ys : List ℕ). getD ys i 0) (sym (append-assoc a b (drop (i - 1) is)))
+    ∙ (getD-append-right (a ++ b) (drop (i - 1) is) (i - 1) i 0 (length-moved p i is h (omega arith)) (omega arith)
+    ∙ (ap (λ (n : ℕ). getD (drop (i - 1) is) n 0) g ∙ (getD-drop (i - 1) is 1 0 ∙ ap (λ (n : ℕ). getD is n 0) j))) in
     let y : i + 1 - 1 - p ≡ i - 1 - p + 1 = omega arith in let x : i + 1 - 1 ≡ i = omega arith in
     let f : p + 1 + (i - 1 - p) ≡ i = omega arith in
     let t : take (i + 1 - 1 - p) (drop (p + 1) is) ≡ b ++ (getD is i 0 ∷ []) =
-        ap (λ (n : ℕ). take n (drop (p + 1) is)) y
-        ∙ (take-more (drop (p + 1) is) (i - 1 - p) 0 (let l = length-drop (p + 1) is in omega arith)
-        ∙ ap (λ (w : ℕ). b ++ (w ∷ [])) (getD-drop (p + 1) is (i - 1 - p) 0 ∙ ap (λ (n : ℕ). getD is n 0) f)) in
+    ap (λ (n : ℕ). take n (drop (p + 1) is)) y
+    ∙ (take-more (drop (p + 1) is) (i - 1 - p) 0 (let l = length-drop (p + 1) is in omega arith)
+    ∙ ap (λ (w : ℕ). b ++ (w ∷ [])) (getD-drop (p + 1) is (i - 1 - p) 0 ∙ ap (λ (n : ℕ). getD is n 0) f)) in
     ap (λ (ys : List ℕ). set ys (i - 1) (getD ys i 0)) e
     ∙ (ap (λ (w : ℕ). set (Left p i is) (i - 1) w) v
     ∙ (set-left p i (getD is i 0) is h (omega arith)
     ∙ sym (ap (λ (n : ℕ). a ++ (take (i + 1 - 1 - p) (drop (p + 1) is) ++ drop n is)) x
-        ∙ (ap (λ (ys : List ℕ). a ++ (ys ++ drop i is)) t
-        ∙ ap (λ (ys : List ℕ). a ++ ys) (append-assoc b (getD is i 0 ∷ []) (drop i is))))))
+    ∙ (ap (λ (ys : List ℕ). a ++ (ys ++ drop i is)) t
+    ∙ ap (λ (ys : List ℕ). a ++ ys) (append-assoc b (getD is i 0 ∷ []) (drop i is))))))
 
 pub left-all : (p c : ℕ) (is m : List ℕ) → p < c → c ≤ length is → m ≡ Left p c is → set m (c - 1) (getD is p 0) ≡ closed p c is
 left-all p c is m h k e = ap (λ (ys : List ℕ). set ys (c - 1) (getD is p 0)) e ∙ set-left p c (getD is p 0) is h k

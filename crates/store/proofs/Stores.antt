@@ -176,7 +176,7 @@ unfolding place found
 found-at k [] = refl
 found-at k (x ∷ s) =
     bool-by (λ b. pick b (found k s) (same-text (x .key) k)
-            ≡ (ltb (pick b (suc (place k s)) 0) (suc (length s)) && same-text (getD (x ∷ s) (pick b (suc (place k s)) 0) blank .key) k))
-        (less-text (x .key) k)
-        (λ e. let l : ltb (suc (place k s)) (suc (length s)) ≡ ltb (place k s) (length s) = grind (arith, tells) in rw l (found-at k s))
-        (λ e. rw (lt-ltb 0 (suc (length s)) (omega arith)) refl)
+    ≡ (ltb (pick b (suc (place k s)) 0) (suc (length s)) && same-text (getD (x ∷ s) (pick b (suc (place k s)) 0) blank .key) k))
+    (less-text (x .key) k)
+    (λ e. let l : ltb (suc (place k s)) (suc (length s)) ≡ ltb (place k s) (length s) = grind (arith, tells) in rw l (found-at k s))
+    (λ e. rw (lt-ltb 0 (suc (length s)) (omega arith)) refl)

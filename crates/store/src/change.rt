@@ -6,13 +6,14 @@ ghost use lib.ListN.{length, getD};
 ghost use Rattle.texts.specs.Words.{text-in};
 ghost use Rattle.store.specs.Region.{blank, count, capacity, items-of, replaced-at, inserted-at, removed-at};
 ghost use Rattle.store.specs.Calls.{Held, Of-text};
-
 use crate::index::close_place;
 use crate::index::open_place;
 use crate::row::row_at;
 
 const INDEX: usize = 2;
+
 const NAME: usize = 9;
+
 const ROW: usize = 42;
 
 // Another text for the p-th item: its row alone changes.

@@ -7,7 +7,6 @@ ghost use Rattle.servers.specs.Store.{less-text, same-text};
 ghost use Rattle.texts.specs.Words.{text-in};
 ghost use Rattle.store.specs.Region.{blank, count, items-of, place, found};
 ghost use Rattle.store.specs.Calls.{Held, Of-text};
-
 use crate::row::name_at;
 
 // Where a name is or goes, and whether it is there.

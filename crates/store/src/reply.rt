@@ -7,7 +7,6 @@ ghost use lib.ListN.{length};
 ghost use Rattle.texts.specs.Words.{text-in, perhaps-words};
 ghost use Rattle.store.specs.Region.{count, items-of};
 ghost use Rattle.store.specs.Calls.{Held, Of-text, text-there};
-
 use crate::find::Spot;
 use crate::row::text_at;
 

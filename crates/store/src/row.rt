@@ -7,7 +7,9 @@ ghost use Rattle.store.specs.Region.{blank, count, capacity, index-of, items-o
 ghost use Rattle.store.specs.Calls.{Held};
 
 const INDEX: usize = 2;
+
 const NAME: usize = 9;
+
 const ROW: usize = 42;
 
 // Where the row begins whose number is at p in the index.

@@ -8,5 +8,5 @@ use Rattle.store.proofs.index.close_place.Given as given
 abbrev pub Inv-loop-i : given.InvT-loop-i
 Inv-loop-i l =
     l .index
-        ≡ take (l .p) (l .entry .index)
-            ++ (take (l .i - 1 - l .p) (drop (l .p + 1) (l .entry .index)) ++ drop (l .i - 1) (l .entry .index))
+    ≡ take (l .p) (l .entry .index)
+    ++ (take (l .i - 1 - l .p) (drop (l .p + 1) (l .entry .index)) ++ drop (l .i - 1) (l .entry .index))

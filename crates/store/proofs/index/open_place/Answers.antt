@@ -9,10 +9,12 @@ pub loop-i-holds : need.loop-i-holds
 loop-i-holds c = (omega arith, omega arith, right-none (c .args .c) (c .args .index .now))
 
 pub loop-i-again : need.loop-i-again
-loop-i-again c =
-    ( omega arith, omega arith
-    , right-more (c .loop-i .i) (c .args .c) (c .args .index .now) (c .loop-i .index) (omega arith) (omega arith) (omega arith)
-        (c .loop-i .inv .2) )
+loop-i-again c = (
+  omega arith,
+  omega arith,
+  right-more (c .loop-i .i) (c .args .c) (c .args .index .now) (c .loop-i .index) (omega arith) (omega arith) (omega arith)
+      (c .loop-i .inv .2),
+)
 
 pub returns : need.returns
 returns c =

@@ -9,7 +9,7 @@ abbrev pub Inv-loop-i : given.InvT-loop-i
 Inv-loop-i l =
     (l .p ≤ l .i) × (l .i ≤ l .c)
     × (l .index
-        ≡ take (l .i + 1) (l .entry .index) ++ (take (l .c - l .i) (drop (l .i) (l .entry .index)) ++ drop (l .c + 1) (l .entry .index)))
+    ≡ take (l .i + 1) (l .entry .index) ++ (take (l .c - l .i) (drop (l .i) (l .entry .index)) ++ drop (l .c + 1) (l .entry .index)))
 
 abbrev pub μ-loop-i : given.MeasureT-loop-i
 μ-loop-i l = l .i

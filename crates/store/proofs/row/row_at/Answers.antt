@@ -34,6 +34,7 @@ returns c =
     let l = held-long (c .args .region .now) (c .pre .held) in
     let e = index-word (c .args .region .now) (c .args .p) (c .pre .within) in
     let b = index-below (c .args .region .now) (c .args .p) (c .pre .held) (c .pre .within) in
-    record
-    { value = ap (λ (i : ℕ). 2 + getD (c .args .region .now) 1 0 + 42 * i) (sym e)
-    ; end = omega arith }
+    record {
+      value = ap (λ (i : ℕ). 2 + getD (c .args .region .now) 1 0 + 42 * i) (sym e);
+      end = omega arith;
+    }
