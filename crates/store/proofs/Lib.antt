@@ -6,3 +6,5 @@ pub mod Regions
 pub mod Shifts
 pub mod Reading
 pub mod Writing
+pub mod Doing
+pub mod CommandParts

@@ -6,7 +6,11 @@ use Prim.Native.Nat.{ℕ, _+_, _*_, _<_}
 use lib.ListN.{length, getD}
 use Rattle.servers.specs.Store.{pick, Perhaps, Command, Reply, Store, reply}
 use Rattle.texts.specs.Words.{Text, Perhaps-text, text-words, text-in, perhaps-words, perhaps-in}
-use Rattle.store.specs.Region.{blank, capacity, items-of, region-do, Region-ok}
+use denote.Ref.{RefT}
+use Rattle.std.specs.declared.option.Option.{Option}
+use Rattle.std.specs.declared.option.Option.the-variants.{Some, None}
+use Rattle.texts.specs.Commands.{command-words, command-in, Good-command}
+use Rattle.store.specs.Region.{blank, capacity, items-of, place, found, region-do, Region-ok}
 
 -- a region, with the room that it says
 abbrev pub Held : List ℕ → Type 0
@@ -36,3 +40,18 @@ pub record Does (x : Command) (r r′ a b : List ℕ) : Type 0 where
   pub region : r′ ≡ region-do x r
   pub after : a ≡ perhaps-words 32 (reply x (items-of r) .now)
   pub before : b ≡ perhaps-words 32 (reply x (items-of r) .old)
+
+-- where a name is or goes, and whether it is there
+pub record Spot-of (k r : List ℕ) (p : ℕ) (b : Bool) : Type 0 where
+  pub at : p ≡ place k (items-of r)
+  pub there : b ≡ found k (items-of r)
+
+-- words of a command that a row can hold
+pub record Of-command (ws : List ℕ) : Type 0 where
+  pub is : ws ≡ command-words (command-in ws)
+  pub good : Good-command (command-in ws)
+
+-- a text in words or none
+abbrev pub text-of-words : Option (RefT (List ℕ)) → Perhaps
+text-of-words None = []
+text-of-words (Some ws) = text-in (ws .now) ∷ []

@@ -3,11 +3,12 @@ ghost use mathlib.Core.Path.{_≡_};
 ghost use mathlib.Core.Bool.{Bool, true, false};
 ghost use Prim.Native.Nat.{ℕ, _<_};
 ghost use lib.ListN.{getD};
-ghost use Rattle.servers.specs.Store.{less-text, same-text};
+ghost use Rattle.servers.specs.Store.{less-text, same-text, look};
 ghost use Rattle.texts.specs.Words.{text-in};
-ghost use Rattle.store.specs.Region.{blank, count, items-of, place, found};
-ghost use Rattle.store.specs.Calls.{Held, Of-text};
+ghost use Rattle.store.specs.Region.{blank, count, items-of, place};
+ghost use Rattle.store.specs.Calls.{Held, Of-text, Spot-of, text-of-words};
 use crate::row::name_at;
+use crate::row::text_at;
 
 // Where a name is or goes, and whether it is there.
 #[derive(Clone, Copy)]
@@ -58,11 +59,24 @@ pub fn lower_bound(region: &[u64], name: &[u64]) -> usize
 pub fn find(region: &[u64], name: &[u64]) -> Spot
     requires held { ⌜ Held (now region) ⌝ }
     requires name { ⌜ Of-text 8 (now name) ⌝ }
-    ensures at { λ r. ⌜ r .at ≡ place (text-in (now (name .entry))) (items-of (now (region .entry))) ⌝ }
-    ensures there { λ r. ⌜ r .there ≡ found (text-in (now (name .entry))) (items-of (now (region .entry))) ⌝ }
+    ensures { λ r. ⌜ Spot-of (text-in (now (name .entry))) (now (region .entry)) (r .at) (r .there) ⌝ }
 {
     let at = lower_bound(region, name);
     let count = region[0] as usize;
     let there = at < count && same_at(region, at, name);
     Spot { at, there }
+}
+
+// The text of a name, in words, if there is one.
+pub fn look_up<'a>(region: &'a [u64], name: &[u64]) -> Option<&'a [u64]>
+    requires held { ⌜ Held (now region) ⌝ }
+    requires name { ⌜ Of-text 8 (now name) ⌝ }
+    ensures { λ r. ⌜ text-of-words r ≡ look (text-in (now (name .entry))) (items-of (now (region .entry))) ⌝ }
+{
+    let spot = find(region, name);
+    if spot.there {
+        Some(text_at(region, spot.at))
+    } else {
+        None
+    }
 }

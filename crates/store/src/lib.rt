@@ -2,6 +2,7 @@
 ghost use Rattle.store.specs.Laws.{Region-laws};
 
 pub mod change;
+pub mod commands;
 pub mod find;
 pub mod index;
 pub mod reply;
