@@ -12,7 +12,7 @@ use Rattle.texts.proofs.Cells.{length-text-words, length-perhaps-words, perhaps
 use Rattle.store.specs.Calls.{Of-text, Of-perhaps, Of-command}
 use Rattle.store.proofs.Writing.{of-text}
 
-of-perhaps : (n : ℕ) (ws : List ℕ) (p : Perhaps) → ws ≡ perhaps-words n p → Perhaps-text (8 * n) p → Of-perhaps n ws
+pub of-perhaps : (n : ℕ) (ws : List ℕ) (p : Perhaps) → ws ≡ perhaps-words n p → Perhaps-text (8 * n) p → Of-perhaps n ws
 of-perhaps n ws p e h =
     let b : perhaps-in ws ≡ p = ap perhaps-in e ∙ perhaps-back n p h in
     record { is = e ∙ ap (perhaps-words n) (sym b); fits = subst (Perhaps-text (8 * n)) (sym b) h }

@@ -3,17 +3,17 @@ use mathlib.Core.Path.{_≡_, refl, sym, ap, subst, _∙_}
 use mathlib.Core.Bool.{Bool, true, false}
 use mathlib.Core.List.{List, [], _∷_, _++_}
 use Prim.Native.Nat.{ℕ, zero, suc, _+_, _*_, _-_, _<_, _≤_}
-use lib.ListN.{length, getD, set, take, drop}
+use lib.ListN.{length, getD, set, take, drop, replicate}
 use native.Mathlib.Omega.{arith}
 use borrow.Rule.Slice.PartMut.{putMid}
-use Rattle.std.proofs.shelf.Lists.{append-assoc, drop-drop, drop-at, take-at, length-take-le, length-drop}
+use Rattle.std.proofs.shelf.Lists.{append-assoc, drop-drop, drop-at, take-at, length-take-le, length-drop, drop-replicate}
 use Rattle.servers.specs.Store.{pick, Item}
-use Rattle.texts.specs.Words.{Text, text-words, text-in, perhaps-words}
+use Rattle.texts.specs.Words.{All, Byte, Text, text-words, text-in, perhaps-words}
 use Rattle.texts.proofs.Cells.{length-text-words, text-back}
 use Rattle.texts.proofs.Parts.{take-past}
-use Rattle.store.specs.Region.{blank, item, item-words, rows-words, region-of, count, capacity, index-of, rows-of, opened, closed, replaced-at, inserted-at, removed-at}
+use Rattle.store.specs.Region.{blank, item, item-words, rows-words, region-of, count, capacity, index-of, rows-of, opened, closed, replaced-at, inserted-at, removed-at, numbers, empty-region}
 use Rattle.store.specs.Calls.{Held, Of-text}
-use Rattle.store.proofs.Rows.{row-put, text-put}
+use Rattle.store.proofs.Rows.{row-put, text-put, rows-blank}
 use Rattle.store.proofs.Reading.{Nth, Row-place, nth-is, index-below, held-few}
 
 -- words of a text are words of that text
@@ -107,3 +107,19 @@ remove-is r js p m o g j =
     ∙ (ap (λ (q : List ℕ). set q 0 (count r - 1))
     (index-written (count r) (capacity r) m (index-of r) js (rows-of r) (o .parts .index) g)
     ∙ ap (λ (q : List ℕ). region-of (count r - 1) (capacity r) q (rows-of r)) s)
+
+-- what a slice of bytes holds
+pub all-bytes : (t : List ℕ) → ((i : ℕ) → getD t i 0 < 256) → All Byte t
+all-bytes [] f = tt
+all-bytes (x ∷ t) f = (f 0, all-bytes t (λ i. f (suc i)))
+
+-- an empty region, from zeros
+pub start-is : (n k : ℕ) (zs js : List ℕ) → zs ≡ replicate (2 + 43 * n) 0 → k ≡ n → js ≡ numbers 0 n
+    → putMid 2 k (set zs 1 n) js ≡ empty-region n
+start-is n k zs js e f g =
+    let z : 2 + 43 * n ≡ suc (suc (43 * n)) = omega arith in
+    let d : 43 * n - k ≡ 42 * n = omega arith in
+    ap (λ (ys : List ℕ). putMid 2 k (set ys 1 n) js) (e ∙ ap (λ (m : ℕ). replicate m 0) z)
+    ∙ (ap (λ (ys : List ℕ). 0 ∷ (n ∷ (js ++ ys)))
+    (drop-replicate {X = ℕ} k (43 * n) 0 ∙ (ap (λ (m : ℕ). replicate m 0) d ∙ sym (rows-blank n)))
+    ∙ ap (λ (is : List ℕ). region-of 0 n is (replicate n blank)) g)
