@@ -9,11 +9,11 @@ use Rattle.servers.specs.Store.{pick, same-text, same-perhaps, Perhaps, Command
 use Rattle.texts.specs.Words.{Text, Perhaps-text, text-words, text-in, perhaps-words, perhaps-in}
 use Rattle.texts.proofs.Cells.{length-perhaps-words}
 use Rattle.texts.proofs.Order.{perhaps-same}
-use Rattle.store.specs.Region.{blank, count, capacity, items-of, place, found, replaced-at, inserted-at, removed-at, region-put, region-remove, region-do}
+use Rattle.store.specs.Region.{blank, count, capacity, items-of, place, found, replaced-at, inserted-at, removed-at, region-put, region-remove, region-do, Region-ok}
 use Rattle.store.specs.Calls.{Held, Of-text, Of-perhaps, Spot-of, Does, text-there}
 use Rattle.store.proofs.Order.{bool-by, pick-by, pick-true, pick-false}
 use Rattle.store.proofs.Stores.{look-place, place-within, found-within}
-use Rattle.store.proofs.Regions.{items-count}
+use Rattle.store.proofs.Regions.{items-count, holds-put, holds-remove}
 use Rattle.store.proofs.Reading.{Nth, nth-good}
 
 -- a spot is within
@@ -73,57 +73,81 @@ tests-same p q ws vs e f g h =
 pub length-told : (p : Perhaps) (ws : List ℕ) → ws ≡ perhaps-words 32 p → length ws ≡ 33
 length-told p ws e = ap length e ∙ length-perhaps-words 32 p
 
+-- what is a region with the room of r stays one
+abbrev Kept : List ℕ → List ℕ → Type 0
+Kept r r′ = Held r′ × (capacity r′ ≡ capacity r)
+
+kept : (r r′ q : List ℕ) → r′ ≡ q → Region-ok (capacity r) q → Kept r r′
+kept r r′ q e o =
+    subst (Kept r) (sym e) (subst (λ (n : ℕ). Region-ok n q) (sym (o .room)) o, o .room)
+
+pub kept-put : (k v r r′ : List ℕ) → Held r → Text 64 k → Text 256 v → length (items-of r) < capacity r → r′ ≡ region-put k v r → Kept r r′
+kept-put k v r r′ o g h l e =
+    let m = items-count (capacity r) r o in
+    kept r r′ (region-put k v r) e (holds-put (capacity r) r k v o g h (omega arith) .0)
+
+pub kept-remove : (k r r′ : List ℕ) → Held r → r′ ≡ region-remove k r → Kept r r′
+kept-remove k r r′ o e = kept r r′ (region-remove k r) e (holds-remove (capacity r) r k o .0)
+
 -- each command, from what was told before it
-pub did-get : (k r a b : List ℕ) → b ≡ perhaps-words 32 (look k (items-of r)) → a ≡ b → Does (get k) r r a b
+pub did-get : (k r a b : List ℕ) → Held r → b ≡ perhaps-words 32 (look k (items-of r)) → a ≡ b → Does (get k) r r a b
 unfolding region-do reply
-did-get k r a b e f = record { region = refl; after = f ∙ e; before = e }
+did-get k r a b o e f = record { region = refl; held = o; room = refl; after = f ∙ e; before = e }
 
-pub did-put : (k v r r′ a b : List ℕ) → b ≡ perhaps-words 32 (look k (items-of r)) → r′ ≡ region-put k v r → a ≡ perhaps-words 32 (v ∷ [])
-    → Does (put k v) r r′ a b
+pub did-put : (k v r r′ a b : List ℕ) → Kept r r′ → b ≡ perhaps-words 32 (look k (items-of r)) → r′ ≡ region-put k v r
+    → a ≡ perhaps-words 32 (v ∷ []) → Does (put k v) r r′ a b
 unfolding region-do reply
-did-put k v r r′ a b e f g = record { region = f; after = g; before = e }
+did-put k v r r′ a b o e f g = record { region = f; held = o .0; room = o .1; after = g; before = e }
 
-pub did-remove : (k r r′ a b : List ℕ) → b ≡ perhaps-words 32 (look k (items-of r)) → r′ ≡ region-remove k r → a ≡ perhaps-words 32 []
-    → Does (remove k) r r′ a b
+pub did-remove : (k r r′ a b : List ℕ) → Kept r r′ → b ≡ perhaps-words 32 (look k (items-of r)) → r′ ≡ region-remove k r
+    → a ≡ perhaps-words 32 [] → Does (remove k) r r′ a b
 unfolding region-do reply
-did-remove k r r′ a b e f g = record { region = f; after = g; before = e }
+did-remove k r r′ a b o e f g = record { region = f; held = o .0; room = o .1; after = g; before = e }
 
-pub did-swap : (k v r r′ a b : List ℕ) (x : Perhaps) → b ≡ perhaps-words 32 (look k (items-of r)) → same-perhaps (look k (items-of r)) x ≡ true
-    → r′ ≡ region-put k v r → a ≡ perhaps-words 32 (v ∷ []) → Does (swap k x v) r r′ a b
+pub did-swap : (k v r r′ a b : List ℕ) (x : Perhaps) → Kept r r′ → b ≡ perhaps-words 32 (look k (items-of r))
+    → same-perhaps (look k (items-of r)) x ≡ true → r′ ≡ region-put k v r → a ≡ perhaps-words 32 (v ∷ []) → Does (swap k x v) r r′ a b
 unfolding region-do reply
-did-swap k v r r′ a b x e t f g =
+did-swap k v r r′ a b x o e t f g =
     record {
       region = f ∙ sym (pick-true (same-perhaps (look k (items-of r)) x) (region-put k v r) r t);
+      held = o .0;
+      room = o .1;
       after = g ∙ ap (perhaps-words 32) (sym (pick-true (same-perhaps (look k (items-of r)) x) (v ∷ []) (look k (items-of r)) t));
       before = e;
     }
 
-pub not-swap : (k v r a b : List ℕ) (x : Perhaps) → b ≡ perhaps-words 32 (look k (items-of r)) → same-perhaps (look k (items-of r)) x ≡ false
-    → a ≡ b → Does (swap k x v) r r a b
+pub not-swap : (k v r a b : List ℕ) (x : Perhaps) → Held r → b ≡ perhaps-words 32 (look k (items-of r))
+    → same-perhaps (look k (items-of r)) x ≡ false → a ≡ b → Does (swap k x v) r r a b
 unfolding region-do reply
-not-swap k v r a b x e t f =
+not-swap k v r a b x o e t f =
     record {
       region = sym (pick-false (same-perhaps (look k (items-of r)) x) (region-put k v r) r t);
+      held = o;
+      room = refl;
       after = f ∙ (e ∙ ap (perhaps-words 32) (sym (pick-false (same-perhaps (look k (items-of r)) x) (v ∷ []) (look k (items-of r)) t)));
       before = e;
     }
 
-pub did-drop : (k v r r′ a b : List ℕ) → b ≡ perhaps-words 32 (look k (items-of r)) → same-perhaps (look k (items-of r)) (v ∷ []) ≡ true
-    → r′ ≡ region-remove k r → a ≡ perhaps-words 32 [] → Does (drop-if k v) r r′ a b
+pub did-drop : (k v r r′ a b : List ℕ) → Kept r r′ → b ≡ perhaps-words 32 (look k (items-of r))
+    → same-perhaps (look k (items-of r)) (v ∷ []) ≡ true → r′ ≡ region-remove k r → a ≡ perhaps-words 32 [] → Does (drop-if k v) r r′ a b
 unfolding region-do reply
-did-drop k v r r′ a b e t f g =
+did-drop k v r r′ a b o e t f g =
     record {
       region = f ∙ sym (pick-true (same-perhaps (look k (items-of r)) (v ∷ [])) (region-remove k r) r t);
+      held = o .0;
+      room = o .1;
       after = g ∙ ap (perhaps-words 32) (sym (pick-true (same-perhaps (look k (items-of r)) (v ∷ [])) [] (look k (items-of r)) t));
       before = e;
     }
 
-pub not-drop : (k v r a b : List ℕ) → b ≡ perhaps-words 32 (look k (items-of r)) → same-perhaps (look k (items-of r)) (v ∷ []) ≡ false
-    → a ≡ b → Does (drop-if k v) r r a b
+pub not-drop : (k v r a b : List ℕ) → Held r → b ≡ perhaps-words 32 (look k (items-of r))
+    → same-perhaps (look k (items-of r)) (v ∷ []) ≡ false → a ≡ b → Does (drop-if k v) r r a b
 unfolding region-do reply
-not-drop k v r a b e t f =
+not-drop k v r a b o e t f =
     record {
       region = sym (pick-false (same-perhaps (look k (items-of r)) (v ∷ [])) (region-remove k r) r t);
+      held = o;
+      room = refl;
       after = f ∙ (e ∙ ap (perhaps-words 32) (sym (pick-false (same-perhaps (look k (items-of r)) (v ∷ [])) [] (look k (items-of r)) t)));
       before = e;
     }

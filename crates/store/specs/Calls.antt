@@ -35,9 +35,11 @@ pub record Ready (r a b : List ℕ) : Type 0 where
   pub after-wide : length a ≡ 33
   pub before-wide : length b ≡ 33
 
--- after it: the region, and the reply's two parts
+-- after it: the region, which is one again with the same room, and the reply's two parts
 pub record Does (x : Command) (r r′ a b : List ℕ) : Type 0 where
   pub region : r′ ≡ region-do x r
+  pub held : Held r′
+  pub room : capacity r′ ≡ capacity r
   pub after : a ≡ perhaps-words 32 (reply x (items-of r) .now)
   pub before : b ≡ perhaps-words 32 (reply x (items-of r) .old)
 

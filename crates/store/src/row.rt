@@ -12,6 +12,22 @@ const NAME: usize = 9;
 
 const ROW: usize = 42;
 
+// How many items there are.
+pub fn len(region: &[u64]) -> usize
+    requires held { ⌜ Held (now region) ⌝ }
+    ensures { λ r. ⌜ r ≡ length (items-of (now (region .entry))) ⌝ }
+{
+    region[0] as usize
+}
+
+// For how many there is room.
+pub fn room(region: &[u64]) -> usize
+    requires held { ⌜ Held (now region) ⌝ }
+    ensures { λ r. ⌜ r ≡ capacity (now (region .entry)) ⌝ }
+{
+    region[1] as usize
+}
+
 // Where the row begins whose number is at p in the index.
 pub fn row_at(region: &[u64], p: usize) -> usize
     requires held { ⌜ Held (now region) ⌝ }

@@ -1,6 +1,8 @@
 use mathlib.Core.Path.{_∙_}
+use mathlib.Core.List.{List}
+use Prim.Native.Nat.{ℕ}
 use Rattle.texts.specs.Words.{text-in}
-use Rattle.store.proofs.Doing.{did-remove, spot-in, removed-do}
+use Rattle.store.proofs.Doing.{did-remove, kept-remove, spot-in, removed-do}
 use Rattle.store.proofs.commands.do_remove.Needs as need
 
 pub remove-item-requires : need.remove-item-requires
@@ -13,9 +15,9 @@ remove-item-requires c κs =
 
 pub returns : need.returns
 returns c =
-    did-remove (text-in (c .args .name .now)) (c .args .region .now) (c .remove-item .last .region) (c .tell-none .last .out)
-    (c .find-before-spot .last .before) (c .find-before-spot .ensures .told)
-    (c .remove-item .ensures
-    ∙ removed-do (text-in (c .args .name .now)) (c .args .region .now) (c .find-before-spot .result .at) (c .find-before-spot .result .there)
-    (c .find-before-spot .ensures .spot))
-    (c .tell-none .ensures)
+    let k : List ℕ = text-in (c .args .name .now) in
+    let r : List ℕ = c .args .region .now in
+    let f = c .remove-item .ensures
+    ∙ removed-do k r (c .find-before-spot .result .at) (c .find-before-spot .result .there) (c .find-before-spot .ensures .spot) in
+    did-remove k r (c .remove-item .last .region) (c .tell-none .last .out) (c .find-before-spot .last .before)
+    (kept-remove k r (c .remove-item .last .region) (c .pre .ready .held) f) (c .find-before-spot .ensures .told) f (c .tell-none .ensures)

@@ -7,7 +7,7 @@ use Rattle.servers.specs.Store.{look, same-perhaps}
 use Rattle.texts.specs.Words.{text-in, perhaps-in}
 use Rattle.store.specs.Region.{capacity, items-of}
 use Rattle.store.proofs.Regions.{items-count}
-use Rattle.store.proofs.Doing.{did-swap, not-swap, tests-same, length-told, look-good}
+use Rattle.store.proofs.Doing.{did-swap, not-swap, kept-put, tests-same, length-told, look-good}
 use Rattle.store.proofs.commands.do_swap.Needs as need
 
 pub same-requires : need.same-requires
@@ -29,7 +29,10 @@ returns-then-same c =
     let e = tests-same (look k (items-of r)) (perhaps-in (c .args .expected .now)) (c .find-before-spot .last .before) (c .args .expected .now)
     (c .find-before-spot .ensures .told) (c .pre .expected .is) (look-good k r (c .pre .ready .held)) (c .pre .expected .fits) in
     did-swap k (text-in (c .args .text .now)) r (c .put-item .last .region) (c .tell-text .last .out) (c .find-before-spot .last .before)
-    (perhaps-in (c .args .expected .now)) (c .find-before-spot .ensures .told) (sym e ∙ sym (c .if-same .ensures tt)) (c .put-item .ensures)
+    (perhaps-in (c .args .expected .now))
+    (kept-put k (text-in (c .args .text .now)) r (c .put-item .last .region) (c .pre .ready .held) (c .pre .name .fits) (c .pre .text .fits)
+    (c .pre .room) (c .put-item .ensures))
+    (c .find-before-spot .ensures .told) (sym e ∙ sym (c .if-same .ensures tt)) (c .put-item .ensures)
     (c .tell-text .ensures)
 
 pub returns-else-same : need.returns-else-same
@@ -39,5 +42,5 @@ returns-else-same c =
     let e = tests-same (look k (items-of r)) (perhaps-in (c .args .expected .now)) (c .find-before-spot .last .before) (c .args .expected .now)
     (c .find-before-spot .ensures .told) (c .pre .expected .is) (look-good k r (c .pre .ready .held)) (c .pre .expected .fits) in
     not-swap k (text-in (c .args .text .now)) r (c .copy-from-slice .last .self) (c .find-before-spot .last .before)
-    (perhaps-in (c .args .expected .now)) (c .find-before-spot .ensures .told) (sym e ∙ sym (c .if-same .ensures tt))
+    (perhaps-in (c .args .expected .now)) (c .pre .ready .held) (c .find-before-spot .ensures .told) (sym e ∙ sym (c .if-same .ensures tt))
     (c .copy-from-slice .ensures .after)
