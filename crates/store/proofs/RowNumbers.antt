@@ -197,3 +197,10 @@ numbers-apart a (suc n) = (above a (suc a) n (omega arith), numbers-apart (suc a
     above : (i a n : ℕ) → i < a → All (Not i) (numbers a n)
     above i a zero h = tt
     above i a (suc n) h = (λ e. omega arith, above i (suc a) n (omega arith))
+
+pub numbers-more : (a n m : ℕ) → m ≡ a + n → numbers a (n + 1) ≡ numbers a n ++ (m ∷ [])
+unfolding numbers
+numbers-more a zero m e = let z : m ≡ a = omega arith in rw z refl
+numbers-more a (suc n) m e =
+    let z : suc n + 1 ≡ suc (n + 1) = omega arith in
+    rw z (ap (λ (is : List ℕ). a ∷ is) (numbers-more (suc a) n m (omega arith)))
