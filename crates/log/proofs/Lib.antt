@@ -8,3 +8,4 @@ pub mod Puts
 pub mod Commands
 pub mod Entries
 pub mod Sizes
+pub mod Replaced

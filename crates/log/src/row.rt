@@ -50,7 +50,7 @@ impl Numbers {
 // The first word of the row of an index: the only place that says where rows stand.
 pub fn place(index: usize) -> usize
     requires some { ⌜ 0 < index ⌝ }
-    requires low { ⌜ index ≤ 2 ^ 32 ⌝ }
+    requires low { ⌜ index ≤ 2 ^ 40 ⌝ }
     ensures { λ r. ⌜ r ≡ row-place index ⌝ }
 {
     ROW * (index - 1)
