@@ -1,33 +1,13 @@
 -- Rows written downward, one for each entry of a message.
 use mathlib.Core.Path.{_≡_, refl, sym, ap, _∙_}
-use mathlib.Core.Bool.{Bool, true, false}
 use mathlib.Core.List.{List, [], _∷_, _++_}
 use Prim.Native.Nat.{ℕ, zero, suc, _+_, _*_, _-_, _≤_, _<_}
 use lib.ListN.{length, take, drop}
 use native.Mathlib.Omega.{arith}
 use borrow.Rule.Slice.PartMut.{putMid}
-use Rattle.std.proofs.shelf.Tests.{false≢true}
 use Rattle.std.proofs.shelf.Lists.{append-assoc, append-nil, drop-drop, drop-at, drop-all, length-take-le, nil-from-length}
 use Rattle.servers.specs.Server.{Entry}
-use Rattle.wire.specs.Read.{Read, got, stuck, and-then, read-entry, read-entries}
-use Rattle.wire.specs.Means.{list-read, is-got}
 use Rattle.log.specs.Rows.{row-words, log-words}
-
--- so many entries were read as were asked for
-pub entries-long : (n : ℕ) (bs : List ℕ) → is-got (read-entries n bs) ≡ true → length (list-read (read-entries n bs)) ≡ n
-unfolding read-entries
-entries-long zero bs h = refl
-entries-long (suc n) bs h = first (entries-long n) (read-entry bs) h
-  where
-    rest : (e : Entry) (r : Read (List Entry)) → (is-got r ≡ true → length (list-read r) ≡ n)
-        → is-got (and-then r (λ es z. got (e ∷ es) z)) ≡ true → length (list-read (and-then r (λ es z. got (e ∷ es) z))) ≡ suc n
-    rest e (got es z) ih h = ap suc (ih refl)
-    rest e (stuck k) ih h = absurd (false≢true h)
-    first : ((z : List ℕ) → is-got (read-entries n z) ≡ true → length (list-read (read-entries n z)) ≡ n) → (r : Read Entry)
-        → is-got (and-then r (λ e z. and-then (read-entries n z) (λ es y. got (e ∷ es) y))) ≡ true
-        → length (list-read (and-then r (λ e z. and-then (read-entries n z) (λ es y. got (e ∷ es) y)))) ≡ suc n
-    first ih (got e z) h = rest e (read-entries n z) (ih z) h
-    first ih (stuck k) h = absurd (false≢true h)
 
 -- the rows of what is left, and those that are written, are the whole
 pub rows-more : (n at k : ℕ) (new : List Entry) (e : Entry) (rows row whole : List ℕ)
@@ -37,9 +17,15 @@ unfolding log-words
 rows-more n at k new e rows row whole some long is w r inv =
     let z : 80 * (n - 1) + 80 ≡ 80 * n = omega arith in
     let d : drop (80 * (n - 1)) (putMid at k rows row) ≡ row-words e ++ drop (80 * n) rows =
-        rw (is, w, r, drop-at (take (80 * (n - 1)) rows) (row-words e ++ drop 80 (drop (80 * (n - 1)) rows)) (80 * (n - 1))
-                (length-take-le (80 * (n - 1)) rows (omega arith)),
-            drop-drop 80 (80 * (n - 1)) rows, z) refl in
+    rw (
+      is,
+      w,
+      r,
+      drop-at (take (80 * (n - 1)) rows) (row-words e ++ drop 80 (drop (80 * (n - 1)) rows)) (80 * (n - 1))
+          (length-take-le (80 * (n - 1)) rows (omega arith)),
+      drop-drop 80 (80 * (n - 1)) rows,
+      z,
+    ) refl in
     rw d (sym (append-assoc (log-words new) (row-words e) (drop (80 * n) rows)) ∙ inv)
 
 pub rows-start : (n : ℕ) (new : List Entry) (rows : List ℕ) → length rows ≡ 80 * n → log-words new ++ drop (80 * n) rows ≡ log-words new

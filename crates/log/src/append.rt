@@ -3,7 +3,7 @@ ghost use mathlib.Core.Path.{_≡_};
 ghost use mathlib.Core.List.{_∷_};
 ghost use Prim.Native.Nat.{ℕ, _+_, _-_, _*_, _^_, _<_, _≤_};
 ghost use lib.ListN.{length};
-ghost use Rattle.wire.specs.Means.{command-of, Command-in};
+ghost use Rattle.wire_read.specs.Means.{command-of, Command-in};
 ghost use Rattle.log.specs.Rows.{log-region};
 ghost use Rattle.log.specs.Places.{Log};
 ghost use Rattle.log.specs.Numbers.{entry-by};
@@ -11,7 +11,7 @@ use crate::row::Numbers;
 use crate::row::ROW;
 use crate::row::place;
 use crate::row::write_row;
-use wire::parts::Command;
+use wire_read::parts::Command;
 
 // The region of any log of that length becomes the region of the log with the entry.
 pub fn push(region: &mut [u64], len: usize, numbers: Numbers, b: &[u8], command: Command)

@@ -5,13 +5,13 @@ ghost use mathlib.Core.List.{_∷_, _++_};
 ghost use Prim.Native.Nat.{ℕ, _+_, _-_, _*_, _<_, _≤_};
 ghost use lib.ListN.{length};
 ghost use Rattle.texts.specs.Words.{text-words, perhaps-words};
-ghost use Rattle.wire.specs.Means.{text-of, perhaps-of, command-of, Text-in, Perhaps-in, Command-in};
+ghost use Rattle.wire_read.specs.Means.{text-of, perhaps-of, command-of, Text-in, Perhaps-in, Command-in};
 ghost use Rattle.log.specs.Rows.{command-words};
 use texts::pack::write_none;
 use texts::pack::write_some;
 use texts::pack::write_text;
-use wire::parts::Command;
-use wire::parts::Text;
+use wire_read::parts::Command;
+use wire_read::parts::Text;
 
 // What stands where a command has no text.
 const NOTHING: Text = Text { at: 0, len: 0 };

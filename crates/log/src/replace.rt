@@ -6,12 +6,16 @@ ghost use Prim.Native.Nat.{ℕ, _+_, _-_, _*_, _^_, _<_, _≤_};
 ghost use lib.ListN.{length, replicate};
 ghost use borrow.Rule.Slice.PartMut.{putMid};
 ghost use Rattle.servers.specs.Server.{up-to};
-ghost use Rattle.wire.specs.Means.{entry-of, entries-of, Entry-in, Entries-in};
+ghost use Rattle.wire_read.specs.Means.{entry-of, entries-of, Entry-in, Entries-in};
 ghost use Rattle.log.specs.Rows.{row-words, log-words, log-region, Row};
 ghost use Rattle.log.specs.Places.{Log};
-use crate::row::{place, write_row, Numbers, ROW};
-use wire::forward::next_entry;
-use wire::parts::{Entries, Entry};
+use crate::row::Numbers;
+use crate::row::ROW;
+use crate::row::place;
+use crate::row::write_row;
+use wire_read::forward::next_entry;
+use wire_read::parts::Entries;
+use wire_read::parts::Entry;
 
 // An entry of a message into its row.
 fn write_entry(row: &mut [u64], b: &[u8], entry: Entry)
@@ -19,7 +23,12 @@ fn write_entry(row: &mut [u64], b: &[u8], entry: Entry)
     requires within { ⌜ Entry-in (now b) entry ⌝ }
     ensures { λ _. ⌜ now (row .exit) ≡ row-words (entry-of (now (b .entry)) entry) ⌝ }
 {
-    let numbers = Numbers { term: entry.term, server: entry.at as u64, client: entry.client, number: entry.id };
+    let numbers = Numbers {
+        term: entry.term,
+        server: entry.at as u64,
+        client: entry.client,
+        number: entry.id,
+    };
     write_row(row, numbers, b, entry.command);
 }
 

@@ -3,12 +3,12 @@ ghost use mathlib.Core.Path.{_≡_};
 ghost use mathlib.Core.List.{_∷_, _++_};
 ghost use Prim.Native.Nat.{ℕ, _+_, _-_, _*_, _^_, _<_, _≤_};
 ghost use lib.ListN.{length, getD, drop, take};
-ghost use Rattle.wire.specs.Means.{command-of, Command-in};
+ghost use Rattle.wire_read.specs.Means.{command-of, Command-in};
 ghost use Rattle.log.specs.Rows.{row-words};
 ghost use Rattle.log.specs.Places.{row-place};
 ghost use Rattle.log.specs.Numbers.{numbers-in, entry-by};
 use crate::command::write_command;
-use wire::parts::Command;
+use wire_read::parts::Command;
 
 // How many words a row has.
 pub const ROW: usize = 80;

@@ -5,7 +5,7 @@ use Prim.Native.Nat.{ℕ, _+_, _-_, _*_}
 use lib.ListN.{length, replicate}
 use borrow.Rule.Slice.PartMut.{putMid}
 use Rattle.std.proofs.shelf.Lists.{length-append, length-replicate}
-use Rattle.wire.specs.Means.{command-of}
+use Rattle.wire_read.specs.Means.{command-of}
 use Rattle.log.specs.Rows.{log-words}
 use Rattle.log.specs.Numbers.{entry-by}
 use Rattle.log.proofs.append.push.Needs as need

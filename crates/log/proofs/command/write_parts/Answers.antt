@@ -7,7 +7,7 @@ use borrow.Rule.Slice.PartMut.{putMid}
 use Rattle.std.proofs.shelf.Lists.{length-set}
 use Rattle.texts.specs.Words.{text-words, perhaps-words}
 use Rattle.texts.proofs.Cells.{length-text-words, length-perhaps-words}
-use Rattle.wire.specs.Means.{text-of, perhaps-of}
+use Rattle.wire_read.specs.Means.{text-of, perhaps-of}
 use Rattle.log.proofs.command.write_parts.Needs as need
 use Rattle.log.proofs.Written.{three-parts, text-written, length-part, length-put}
 

@@ -5,7 +5,7 @@ use Prim.Native.Nat.{ℕ, _+_, _-_, _*_}
 use lib.ListN.{length, replicate}
 use borrow.Rule.Slice.PartMut.{putMid}
 use Rattle.servers.specs.Server.{Entry}
-use Rattle.wire.specs.Means.{entries-of}
+use Rattle.wire_read.specs.Means.{entries-of}
 use Rattle.log.specs.Rows.{log-region}
 use Rattle.log.proofs.replace.replace.Needs as need
 use Rattle.log.proofs.Rows.{length-region}
@@ -25,9 +25,9 @@ returns-then-end-len c room es long row fits is =
     let there = c .pre .room in
     let less = c .if-end-len .taken in
     let first : putMid at width (c .args .region .now) (c .write-rows .last .rows) ≡ replacing room index new es =
-        ap (λ (z : List ℕ). putMid at width z (c .write-rows .last .rows)) is
-        ∙ written room index new es (c .write-rows .last .rows) at width row (omega arith) (omega arith) (omega arith)
-        (omega arith) (omega arith) (c .write-rows .ensures .rows) in
+    ap (λ (z : List ℕ). putMid at width z (c .write-rows .last .rows)) is
+    ∙ written room index new es (c .write-rows .last .rows) at width row (omega arith) (omega arith) (omega arith)
+    (omega arith) (omega arith) (c .write-rows .ensures .rows) in
     c .clear .ensures
     ∙ (ap (λ (z : List ℕ). putMid (80 * end) (80 * (c .args .len - end)) z (replicate (80 * (c .args .len - end)) 0)) first
     ∙ cleared room index new es (replicate (80 * (c .args .len - end)) 0) (80 * end) (80 * (c .args .len - end)) row

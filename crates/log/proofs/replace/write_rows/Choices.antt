@@ -2,7 +2,7 @@ use Prim.Native.Nat.{_*_, _≤_}
 use mathlib.Core.Path.{_≡_}
 use mathlib.Core.List.{_++_}
 use lib.ListN.{length, drop}
-use Rattle.wire.specs.Means.{Entries-in, entries-of}
+use Rattle.wire_read.specs.Means.{Entries-in, entries-of}
 use Rattle.log.specs.Rows.{log-words}
 use Rattle.log.proofs.replace.write_rows.Given as given
 

@@ -2,7 +2,7 @@ use mathlib.Core.Path.{_≡_, ap, _∙_}
 use mathlib.Core.List.{List}
 use Prim.Native.Nat.{ℕ}
 use borrow.Rule.Slice.PartMut.{putMid}
-use Rattle.wire.specs.Means.{command-of}
+use Rattle.wire_read.specs.Means.{command-of}
 use Rattle.log.specs.Rows.{row-words, command-words}
 use Rattle.log.proofs.row.write_row.Needs as need
 use Rattle.log.proofs.Written.{row-written}
