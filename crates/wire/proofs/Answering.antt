@@ -19,7 +19,7 @@ use Rattle.servers.specs.Server.{entry-at, above, term-is, term-of, with-send, 
 use Rattle.servers.specs.Server.{to-others, to-server}
 use Rattle.servers.specs.Server.{settles, sends-now, sent-now, is-new, is-again, do-one, tell-one, tell-all, dues, first-step}
 use Rattle.servers.specs.Server.{first-letters, ends-there, is-request}
-use Rattle.servers.specs.Server.{good-message, good-fields, out-of-row, turned-by, turned, place, doing, answer}
+use Rattle.servers.specs.Server.{good-message, out-of-row, turned, place, doing, answer}
 use Rattle.servers.specs.Promise.{eight, all-fine, fine-message, readable, Good-limits}
 use Rattle.wire.proofs.Tests.{bool-by, pick-by}
 use Rattle.wire.proofs.Numbers.{Byte, Number}
@@ -29,7 +29,7 @@ use Rattle.wire.proofs.Lengths.{Short-entry, carried}
 use Rattle.wire.proofs.Stored.{Small-reply, leaves, reply-small}
 use Rattle.wire.proofs.Kept.{Kept-entry, Keeps, all-nth, all-above, length-above, all-due, length-due}
 use Rattle.wire.proofs.Steps.{number-below, kept-carried, next-low, keeps-first, keeps-settles, keeps-sent, keeps-one, heard-send}
-use Rattle.wire.proofs.Steps.{passes, Held}
+use Rattle.wire.proofs.Steps.{Passing, passes, Held}
 
 -- what is told
 abbrev pub Kept-said : Said → Type 0
@@ -37,20 +37,16 @@ Kept-said s = (Number (s .client) × Number (s .id)) × Small-reply (s .reply)
 
 told-one : (l : Limits) (s : State) (e : Entry) → Kept-entry e → Keeps l s → All Kept-said (tell-one l s e)
 told-one l s e p k =
+    let new = reply-small (e .command) (s .store) (leaves (e .command) (p .0 .1 .1 .1 .1 .1) (p .1)) (k .4) in
+    let again = all-nth (λ c. Small-reply (c .reply)) no-cached (s .cache) (e .client) (tt, tt) (k .5) in
     pick-by (All Kept-said) (eqb (e .at) (l .me) && (is-new s e || is-again s e)) _ _
-    (λ q. (
-      (
-        (p .0 .1 .0, p .0 .1 .1 .0),
-        pick-by Small-reply (is-new s e) _ _ (λ n. reply-small (e .command) (s .store) (leaves (e .command) (p .0 .1 .1 .1 .1 .1) (p .1)) (k .4))
-            (λ n. all-nth (λ c. Small-reply (c .reply)) no-cached (s .cache) (e .client) (tt, tt) (k .5)),
-      ),
-      tt,
-    )) (λ q. tt)
+    (λ q. (((p .0 .1 .0, p .0 .1 .1 .0), pick-by Small-reply (is-new s e) _ _ (λ n. new) (λ n. again)), tt)) (λ q. tt)
 
 told-all : (l : Limits) (s : State) (es : List Entry) → All Kept-entry es → Keeps l s → All Kept-said (tell-all l s es)
 unfolding tell-all
 told-all l s [] a k = tt
-told-all l s (e ∷ es) a k = all-append Kept-said (tell-one l s e) _ (told-one l s e (a .0) k) (told-all l (do-one s e) es (a .1) (keeps-one l s e (a .0) k))
+told-all l s (e ∷ es) a k =
+    all-append Kept-said (tell-one l s e) _ (told-one l s e (a .0) k) (told-all l (do-one s e) es (a .1) (keeps-one l s e (a .0) k))
 
 length-told : (l : Limits) (s : State) (es : List Entry) → length (tell-all l s es) ≤ length es
 unfolding tell-all
@@ -95,17 +91,12 @@ kept-to : (can : ℕ → Bool) (l : Limits) (s : State) (h : ℕ) → Good-limit
 kept-to can l s h g k =
     let i : ℕ = next-for s h - 1 in
     let n = next-low l s h k in let z = g .6 in let c = k .2 in let t = k .0 in let r = k .1 .1 in let d = length-above i (s .log) in
-    let a = all-above Kept-entry i (s .log) (k .1 .2) in (
-      (
-        number-below last-of-all (s .term) t (omega arith),
-        (
-          number-below 65536 i (omega arith) (omega arith),
-          (
-            entry-term i (s .log) (k .1 .2),
-            (number-below 65536 (s .commit) (omega arith) (omega arith), (good-each (above i (s .log)) a, number-below 65536 (length (above i (s .log))) (omega arith) (omega arith))),
-          ),
-        ),
-      ),
+    let a = all-above Kept-entry i (s .log) (k .1 .2) in
+    let term : Number (s .term) = number-below last-of-all _ t (omega arith) in
+    let before : Number i = number-below 65536 i (omega arith) (omega arith) in
+    let commit : Number (s .commit) = number-below 65536 _ (omega arith) (omega arith) in
+    let many : Number (length (above i (s .log))) = number-below 65536 _ (omega arith) (omega arith) in (
+      (term, (before, (entry-term i (s .log) (k .1 .2), (commit, (good-each (above i (s .log)) a, many))))),
       all-weaker Kept-entry Short-entry (λ e p. p .1) (above i (s .log)) a,
       omega arith,
     )
@@ -114,7 +105,8 @@ abbrev pub Kept-letters : Limits → List Letter → Type 0
 Kept-letters l xs = All (Kept-letter l) xs × (length xs < l .servers)
 
 kept-all :
-    (can : ℕ → Bool) (l : Limits) (f : ℕ → Message) → Good-limits can l → ((h : ℕ) → Kept-message l (f h)) → Kept-letters l (to-others (l .servers) (l .me) f)
+    (can : ℕ → Bool) (l : Limits) (f : ℕ → Message) → Good-limits can l → ((h : ℕ) → Kept-message l (f h))
+    → Kept-letters l (to-others (l .servers) (l .me) f)
 kept-all can l f g a =
     let n = length-others (l .servers) (l .me) f in let m = g .2 in
     (kept-others l (l .servers) (l .me) f (g .1) a, grind (arith, tells))
@@ -122,7 +114,8 @@ kept-all can l f g a =
 kept-sends : (can : ℕ → Bool) (l : Limits) (s : State) → Good-limits can l → Keeps l s → Kept-letters l (sends-now l s)
 kept-sends can l s g k =
     let n = g .0 in
-    pick-by (Kept-letters l) (eqb (s .kind) 2 && s .send) _ _ (λ q. kept-all can l (λ h. to-server s h) g (λ h. kept-to can l s h g k)) (λ q. (tt, omega arith))
+    pick-by (Kept-letters l) (eqb (s .kind) 2 && s .send) _ _
+    (λ q. kept-all can l (λ h. to-server s h) g (λ h. kept-to can l s h g k)) (λ q. (tt, omega arith))
 
 unsent : (l : Limits) (s : State) → s .send ≡ false → sends-now l (settles l s) ≡ []
 unsent l s z = grind (arith, tells)
@@ -136,8 +129,8 @@ term-number [] a = refl
 term-number (e ∷ es) a = a .0 .0 .1 .1 .1 .1 .0
 
 kept-back :
-    (can : ℕ → Bool) (l : Limits) (s : State) (h : ℕ) (m : Message) → Good-limits can l → h < l .servers → fine-message m ≡ true → good-message l m ≡ true
-    → Keeps l s → Kept-letters l (back s h m)
+    (can : ℕ → Bool) (l : Limits) (s : State) (h : ℕ) (m : Message) → Good-limits can l → h < l .servers → fine-message m ≡ true
+    → good-message l m ≡ true → Keeps l s → Kept-letters l (back s h m)
 kept-back can l s h m g b f q k = so m f q
   where
     byte : Byte h
@@ -161,8 +154,10 @@ kept-back can l s h m g b f q k = so m f q
         let a = and-parts (eight t) (eight i) (and-parts _ (eight u && (all-fine es && eight c)) f .0) .0 in
         let n = index-number es (kept-carried l (append t i u es c) f q) in
         let z : 0 ≤ l .room = omega arith in
-        one (append-reply s t i u es) (pick-by (Kept-message l) (ltb t (s .term)) _ _ (λ o. ((own, (n, tt)), tt, z))
-        (λ o. pick-by (Kept-message l) (eqb i 0 || term-is (entry-at i (s .log)) u) _ _ (λ r. ((a, (n, tt)), tt, z)) (λ r. ((own, (n, tt)), tt, z))))
+        let refuse : Kept-message l (appended (s .term) (last-index es) false) = ((own, (n, tt)), tt, z) in
+        one (append-reply s t i u es)
+        (pick-by (Kept-message l) (ltb t (s .term)) _ _ (λ o. refuse)
+        (λ o. pick-by (Kept-message l) (eqb i 0 || term-is (entry-at i (s .log)) u) _ _ (λ r. ((a, (n, tt)), tt, z)) (λ r. refuse)))
     so (appended t i ok) f q = none
 
 abbrev pub Kept-answer : Limits → Answer → Type 0
@@ -170,45 +165,51 @@ Kept-answer l (refused j n) = Byte j × Number n
 Kept-answer l not-leader = Unit {0}
 Kept-answer l (does ss ls) = (All Kept-said ss × (length ss ≤ l .room)) × Kept-letters l ls
 
+-- who wants to lead asks the others
+abbrev asks : State → ℕ → Message
+asks s h = ask-vote (suc (s .term)) (last-index (s .log)) (last-term (s .log))
+
+kept-asks :
+    (can : ℕ → Bool) (l : Limits) (s : State) → Good-limits can l → suc (s .term) ≤ last-of-all → Keeps l s
+    → Kept-letters l (to-others (l .servers) (l .me) (asks s))
+kept-asks can l s g low k =
+    let term = number-below last-of-all (suc (s .term)) low (omega arith) in
+    kept-all can l (asks s) g (λ h. ((term, (index-number (s .log) (k .1 .2), term-number (s .log) (k .1 .2))), tt, omega arith))
+
 kept-letters :
-    (can : ℕ → Bool) (l : Limits) (s : State) (e : Event) → Good-limits can l → readable e ≡ true → good-fields l e ≡ true → turned-by l s e ≡ 0
-    → Held l s → Kept-letters l (first-letters l s e ++ sends-now l (settles l (first-step l s e)))
-kept-letters can l s e g f q t h =
-    so e f q t (kept-sends can l (settles l (first-step l s e)) g (keeps-settles l (first-step l s e) (keeps-first can l s e g f q t (h .0))))
+    (can : ℕ → Bool) (l : Limits) (s : State) (e : Event) → Passing can l s e → Held l s
+    → Kept-letters l (first-letters l s e ++ sends-now l (settles l (first-step l s e)))
+kept-letters can l s e p h =
+    so e p (kept-sends can l (settles l (first-step l s e)) (p .0) (keeps-settles l (first-step l s e) (keeps-first can l s e p (h .0))))
   where
-    asks : suc (s .term) ≤ last-of-all → Kept-letters l (to-others (l .servers) (l .me) (λ h. ask-vote (suc (s .term)) (last-index (s .log)) (last-term (s .log))))
-    asks low =
-        kept-all can l _ g (λ i. ((number-below last-of-all (suc (s .term)) low (omega arith), (index-number (s .log) (h .0 .1 .2), term-number (s .log) (h .0 .1 .2))), tt, omega arith))
+    Sends : State → List Letter → Type 0
+    Sends m xs = Kept-letters l (sends-now l (settles l m)) → Kept-letters l (xs ++ sends-now l (settles l m))
 
-    so :
-        (e : Event) → readable e ≡ true → good-fields l e ≡ true → turned-by l s e ≡ 0 → Kept-letters l (sends-now l (settles l (first-step l s e)))
-        → Kept-letters l (first-letters l s e ++ sends-now l (settles l (first-step l s e)))
-    so timeout f q t k =
+    so : (e : Event) → Passing can l s e → Sends (first-step l s e) (first-letters l s e)
+    so timeout (g, f, q, t) k =
         bool-by
-        (λ b. _≡_ {A = ℕ} (pick (b || ltb (s .term) last-of-all) 0 5) 0 → Kept-letters l (sends-now l (settles l (pick b (with-send true s) (wants l s))))
-        → Kept-letters l (pick b [] (to-others (l .servers) (l .me) (λ h. ask-vote (suc (s .term)) (last-index (s .log)) (last-term (s .log))))
-        ++ sends-now l (settles l (pick b (with-send true s) (wants l s)))))
-        (eqb (s .kind) 2) (λ b o k. k) (λ b o k. subst (Kept-letters l) (sym (append-nil _)) (asks (grind (arith, tells)))) t k
-    so (request c i x) f q t k = k
-    so (comes j m) f q t k =
-        let p = and-parts _ _ f in let r = and-parts _ _ q in let y = and-parts _ _ (r .0) in
+        (λ b. _≡_ {A = ℕ} (pick (b || ltb (s .term) last-of-all) 0 5) 0
+        → Sends (pick b (with-send true s) (wants l s)) (pick b [] (to-others (l .servers) (l .me) (asks s))))
+        (eqb (s .kind) 2) (λ b o k. k)
+        (λ b o k. subst (Kept-letters l) (sym (append-nil _)) (kept-asks can l s g (grind (arith, tells)) (h .0))) t k
+    so (request c i x) p k = k
+    so (comes j m) (g, f, q, t) k =
+        let a = and-parts _ _ f in let r = and-parts _ _ q in let y = and-parts _ _ (r .0) in
         rw (unsent l (heard l s j m) (heard-send l s j m ∙ h .1), append-nil)
-        (kept-back can l s j m g (ltb-true j (l .servers) (y .0)) (p .1) (r .1) (h .0))
-    so restart f q t k = k
-    so (garbled n) f q t k = k
+        (kept-back can l s j m g (ltb-true j (l .servers) (y .0)) (a .1) (r .1) (h .0))
+    so restart p k = k
+    so (garbled n) p k = k
 
-kept-doing :
-    (can : ℕ → Bool) (l : Limits) (s : State) (e : Event) → Good-limits can l → readable e ≡ true → good-fields l e ≡ true → turned-by l s e ≡ 0
-    → Held l s → Kept-answer l (doing l s e)
-kept-doing can l s e g f q t h =
+kept-doing : (can : ℕ → Bool) (l : Limits) (s : State) (e : Event) → Passing can l s e → Held l s → Kept-answer l (doing l s e)
+kept-doing can l s e p h =
     let m : State = settles l (first-step l s e) in
     let n : State = sent-now m in
-    let k : Keeps l n = keeps-sent l m (keeps-settles l (first-step l s e) (keeps-first can l s e g f q t (h .0))) in
+    let k : Keeps l n = keeps-sent l m (keeps-settles l (first-step l s e) (keeps-first can l s e p (h .0))) in
     let a = length-told l n (dues n) in let b = length-due (n .applied) (n .commit) (n .log) in let d = k .1 .1 in
-    let z : 0 ≤ l .room = omega arith in let y = g .0 in let x : 0 < l .servers = omega arith in
+    let told = told-all l n (dues n) (all-due Kept-entry (n .applied) (n .commit) (n .log) (k .1 .2)) k in
+    let z : 0 ≤ l .room = omega arith in let y = p .0 .0 in let x : 0 < l .servers = omega arith in
     pick-by (Kept-answer l) (is-request e && not (eqb (s .kind) 2)) _ _ (λ o. tt)
-    (λ o. pick-by (Kept-answer l) (ends-there e) _ _ (λ p. ((tt, z), (tt, x)))
-    (λ p. ((told-all l n (dues n) (all-due Kept-entry (n .applied) (n .commit) (n .log) (k .1 .2)) k, omega arith), kept-letters can l s e g f q t h)))
+    (λ o. pick-by (Kept-answer l) (ends-there e) _ _ (λ q. ((tt, z), (tt, x))) (λ q. ((told, omega arith), kept-letters can l s e p h)))
 
 row-low : (l : Limits) (m : Message) → out-of-row l m ≤ 3
 row-low l (ask-vote t i u) = omega arith
@@ -234,5 +235,5 @@ pub kept-answer :
     (can : ℕ → Bool) (l : Limits) (s : State) (e : Event) → Good-limits can l → readable e ≡ true → Held l s → Kept-answer l (answer l s e)
 kept-answer can l s e g f h =
     pick-by (Kept-answer l) (eqb (turned l s e) 0) _ _
-    (λ t. let p = passes l s e (eqb-true (turned l s e) 0 t) in kept-doing can l s e g f (p .0) (p .1) h)
+    (λ t. kept-doing can l s e (passes can l s e g f (eqb-true (turned l s e) 0 t)) h)
     (λ t. let n = turned-low l s e in (lt-ltb (turned l s e) 256 (omega arith), place-number e (turned l s e) f))

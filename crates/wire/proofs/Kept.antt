@@ -57,7 +57,8 @@ pub all-due : (P : Entry → Type 0) (lo hi : ℕ) (es : List Entry) → All P e
 unfolding due
 all-due P lo hi [] a = tt
 all-due P lo hi (e ∷ es) a =
-    all-append P (due lo hi es) _ (all-due P lo hi es (a .1)) (pick-by (All P) (ltb lo (e .index) && leb (e .index) hi) _ _ (λ q. (a .0, tt)) (λ q. tt))
+    all-append P (due lo hi es) _ (all-due P lo hi es (a .1))
+    (pick-by (All P) (ltb lo (e .index) && leb (e .index) hi) _ _ (λ q. (a .0, tt)) (λ q. tt))
 
 pub length-due : (lo hi : ℕ) (es : List Entry) → length (due lo hi es) ≤ length es
 unfolding due
@@ -65,7 +66,7 @@ length-due lo hi [] = omega arith
 length-due lo hi (e ∷ es) =
     let h = length-due lo hi es in
     let o : List Entry = pick (ltb lo (e .index) && leb (e .index) hi) (e ∷ []) [] in
-    let k : length o ≤ 1 = pick-by (λ (ys : List Entry). length ys ≤ 1) (ltb lo (e .index) && leb (e .index) hi) _ _ (λ q. omega arith) (λ q. omega arith) in
+    let k : length o ≤ 1 = grind (arith, tells) in
     let l = length-append (due lo hi es) o in omega arith
 
 -- logs in a row from 1
@@ -112,8 +113,11 @@ pub log-joined :
     (l : Limits) (i u : ℕ) (es log : List Entry) → Kept-log l log → All Kept-entry es → in-a-row i es ≡ true → i + length es ≤ l .room
     → term-is (entry-at i log) u ≡ true → Kept-log l (es ++ up-to i log)
 log-joined l i u es log k a q h t =
-    let n = length-up-to i u log (k .0) t in
-    (row-append i es (up-to i log) q (row-up-to i log (k .0)) n, simp length-append (omega arith), all-append Kept-entry es (up-to i log) a (all-up-to Kept-entry i log (k .2)))
+    let n = length-up-to i u log (k .0) t in (
+      row-append i es (up-to i log) q (row-up-to i log (k .0)) n,
+      simp length-append (omega arith),
+      all-append Kept-entry es (up-to i log) a (all-up-to Kept-entry i log (k .2)),
+    )
 
 pub log-afresh : (l : Limits) (es : List Entry) → All Kept-entry es → in-a-row 0 es ≡ true → length es ≤ l .room → Kept-log l es
 log-afresh l es a q h = (subst Row (append-nil es) (row-append 0 es [] q tt refl), h, a)
@@ -121,5 +125,5 @@ log-afresh l es a q h = (subst Row (append-nil es) (row-append 0 es [] q tt refl
 -- what is kept of a state
 abbrev pub Keeps : Limits → State → Type 0
 Keeps l s =
-    (s .term ≤ last-of-all) × Kept-log l (s .log) × (s .commit ≤ l .room) × All (All (λ n. n ≤ suc (l .room))) (s .nexts) × Values (s .store)
-    × All (λ c. Small-reply (c .reply)) (s .cache)
+    (s .term ≤ last-of-all) × Kept-log l (s .log) × (s .commit ≤ l .room) × All (All (λ n. n ≤ suc (l .room))) (s .nexts)
+    × Values (s .store) × All (λ c. Small-reply (c .reply)) (s .cache)

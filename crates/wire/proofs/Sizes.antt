@@ -44,7 +44,8 @@ message-fits l (append t i u es c) q r =
     let n = leb-true (i + length es) (l .room) (and-parts (in-a-row i es) (leb (i + length es) (l .room)) (p .0) .1) in
     let b = and-parts (leb t last-of-all && (leb i (l .room) && leb u last-of-all)) (clients-there l es && all-short-entries es)
     (and-parts _ (terms-below es && leb c (l .room)) q .0) in
-    let s = message-size (append t i u es c) (short-each es (and-parts (clients-there l es) (all-short-entries es) (b .1) .1)) in omega arith
+    let a = short-each es (and-parts (clients-there l es) (all-short-entries es) (b .1) .1) in
+    let s = message-size (append t i u es c) a in omega arith
 message-fits l (appended t i ok) q r = let s = message-size (appended t i ok) tt in omega arith
 
 pub event-fits : Event-fits
@@ -57,7 +58,9 @@ event-fits l s e room late =
     so : (e : Event) → good-fields l e ≡ true → Late (turned-by l s e) → length (write-event e) ≤ event-size l
     so timeout q r = omega arith
     so (request c k x) q r = let n = command-length x (and-parts (ltb c (l .clients)) (short x) q .1) in omega arith
-    so (comes h m) q r = let n = message-fits l m (and-parts (ltb h (l .servers) && not (eqb h (l .me))) (good-message l m) q .1) r in omega arith
+    so (comes h m) q r =
+        let g = and-parts (ltb h (l .servers) && not (eqb h (l .me))) (good-message l m) q .1 in
+        let n = message-fits l m g r in omega arith
     so restart q r = omega arith
     so (garbled n) q r = omega arith
 
@@ -71,7 +74,8 @@ saids-length : (ss : List Said) → All Kept-said ss → length (write-saids ss)
 unfolding write-saids write-number
 saids-length [] a = omega arith
 saids-length (s ∷ ss) a =
-    let r = saids-length ss (a .1) in let p = small-length (s .reply .now) (a .0 .1 .0) in let q = small-length (s .reply .old) (a .0 .1 .1) in
+    let r = saids-length ss (a .1) in
+    let p = small-length (s .reply .now) (a .0 .1 .0) in let q = small-length (s .reply .old) (a .0 .1 .1) in
     let l = length-append (write-perhaps (s .reply .now)) (write-perhaps (s .reply .old)) in
     let m = length-append (write-said s) (write-saids ss) in omega arith
 
@@ -97,7 +101,8 @@ kept-fits l (does ss ls) p =
 pub answer-fits : Answer-fits
 unfolding all-readable
 answer-fits can l es e g f =
-    let p = and-parts _ _ f in kept-fits l (answer l (state l es) e) (kept-answer can l (state l es) e g (p .0) (held can l es g (p .1)))
+    let p = and-parts _ _ f in
+    kept-fits l (answer l (state l es) e) (kept-answer can l (state l es) e g (p .0) (held can l es g (p .1)))
 
 fine-small : (e : Perhaps) → Small e → fine-perhaps e ≡ true
 unfolding bytes-perhaps
@@ -118,7 +123,8 @@ unfolding fine-letters
 fine-post l [] h a = refl
 fine-post l (x ∷ xs) h a =
     let n = kept-length l (x .message) (a .0 .1) in let f = fine-all (x .message) (a .0 .1 .0) in
-    both (both (both (a .0 .0) (lt-ltb (length (write-message (x .message))) 18446744073709551616 (omega arith))) (both (f .0) (f .1))) (fine-post l xs h (a .1))
+    let e = lt-ltb (length (write-message (x .message))) 18446744073709551616 (omega arith) in
+    both (both (both (a .0 .0) e) (both (f .0) (f .1))) (fine-post l xs h (a .1))
 
 kept-fine : (can : ℕ → Bool) (l : Limits) (a : Answer) → Good-limits can l → Kept-answer l a → fine-answer a ≡ true
 kept-fine can l (refused j k) g p = both (p .0) (p .1)
@@ -131,4 +137,5 @@ kept-fine can l (does ss ls) g p =
 pub answer-is-fine : Answer-is-fine
 unfolding all-readable
 answer-is-fine can l es e g f =
-    let p = and-parts _ _ f in kept-fine can l (answer l (state l es) e) g (kept-answer can l (state l es) e g (p .0) (held can l es g (p .1)))
+    let p = and-parts _ _ f in
+    kept-fine can l (answer l (state l es) e) g (kept-answer can l (state l es) e g (p .0) (held can l es g (p .1)))

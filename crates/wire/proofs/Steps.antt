@@ -18,9 +18,9 @@ use Rattle.servers.specs.Server.{advanced, with-send}
 use Rattle.servers.specs.Server.{after-append, appends, hears-appended, grants, asked, hears-vote, heard, wants, with-request}
 use Rattle.servers.specs.Server.{settled-to, settles, sent-now, is-new, do-one, do-all, dues, finished, after-all, first-step, stepped}
 use Rattle.servers.specs.Server.{event-number, good-message, good-fields, out-of-row, turned-by, turned, after, state}
-use Rattle.servers.specs.Promise.{eight, all-fine, fine-message, readable, all-readable, Good-limits}
+use Rattle.servers.specs.Promise.{eight, fine, all-fine, fine-message, readable, all-readable, Good-limits}
 use Rattle.wire.proofs.Tests.{bool-by, pick-by, pick-first}
-use Rattle.wire.proofs.Numbers.{Number}
+use Rattle.wire.proofs.Numbers.{Byte, Number}
 use Rattle.wire.proofs.Lengths.{carried}
 use Rattle.wire.proofs.Stored.{leaves, done-values, reply-small, short-command}
 use Rattle.wire.proofs.Kept.{Kept-entry, Kept-log, Keeps, row-last, row-index, log-joined, log-afresh, all-many, all-nth, all-set-at}
@@ -65,7 +65,8 @@ keeps-appends :
 keeps-appends l s h t i u c es low far a row room k =
     pick-by (Keeps l) (ltb t (s .term)) _ _ (λ q. k)
     (λ q. pick-by (Keeps l) (eqb i 0) _ _
-    (λ p. keeps-entries l s h t c es es low far k (log-afresh l es a (subst (λ n. in-a-row n es ≡ true) (eqb-true i 0 p) row) (omega arith)))
+    (λ p. keeps-entries l s h t c es es low far k
+    (log-afresh l es a (subst (λ n. in-a-row n es ≡ true) (eqb-true i 0 p) row) (omega arith)))
     (λ p. pick-by (Keeps l) (term-is (entry-at i (s .log)) u) _ _
     (λ o. keeps-entries l s h t c es (es ++ up-to i (s .log)) low far k (log-joined l i u es (s .log) (k .1) a row room o)) (λ o. k)))
 
@@ -76,7 +77,8 @@ next-low l s h k = so (nth [] (s .nexts) h) (all-nth (All (λ n. n ≤ suc (l .r
     so [] a = let e = row-last (s .log) (k .1 .0) in let h = k .1 .1 in omega arith
     so (n ∷ ns) a = a .0
 
-keeps-appended : (l : Limits) (s : State) (h t i : ℕ) (ok : Bool) → t ≤ last-of-all → i ≤ l .room → Keeps l s → Keeps l (hears-appended s h t i ok)
+keeps-appended :
+    (l : Limits) (s : State) (h t i : ℕ) (ok : Bool) → t ≤ last-of-all → i ≤ l .room → Keeps l s → Keeps l (hears-appended s h t i ok)
 keeps-appended l s h t i ok low far k =
     let n = next-low l s h k in
     pick-by (Keeps l) (eqb (s .term) t) _ _
@@ -110,54 +112,42 @@ keeps-heard l s h (append t i u es c) f q o k =
 keeps-heard l s h (appended t i ok) f q o k =
     let p = and-parts _ _ q in keeps-appended l s h t i ok (leb-true t last-of-all (p .0)) (leb-true i (l .room) (p .1)) k
 
+-- what is asked of limits and events: an event that isn't turned away
+abbrev pub Passing : (ℕ → Bool) → Limits → State → Event → Type 0
+Passing can l s e = Good-limits can l × (readable e ≡ true) × (good-fields l e ≡ true) × (turned-by l s e ≡ 0)
+
+pub passes :
+    (can : ℕ → Bool) (l : Limits) (s : State) (e : Event) → Good-limits can l → readable e ≡ true → turned l s e ≡ 0 → Passing can l s e
+passes can l s e g f t =
+    let can-be : Bool = (eqb (event-number e) 255 || (l .events-can) (event-number e)) && good-fields l e in
+    let p = pick-first (λ (n : ℕ). n ≡ 0) can-be (turned-by l s e) 2 t (λ z. omega arith) in
+    (g, f, and-parts _ _ (p .0) .1, p .1)
+
 kept-request :
-    (can : ℕ → Bool) (l : Limits) (s : State) (c i : ℕ) (x : Command) → Good-limits can l → readable (request c i x) ≡ true → short x ≡ true
+    (can : ℕ → Bool) (l : Limits) (s : State) (c i : ℕ) (x : Command) → Passing can l s (request c i x)
     → length (s .log) < l .room → Keeps l s → Keeps l (with-request l c i x s)
-kept-request can l s c i x g f q h k =
-    let p = and-parts _ _ f in let r = and-parts _ _ (p .1) in
-    let n = row-last (s .log) (k .1 .0) in let t = k .0 in let a = g .1 in let b = g .2 in let z = g .6 in (
-      t,
-      (
-        (ap suc n, k .1 .0),
-        omega arith,
-        (
-          (
-            (
-              lt-ltb (l .me) 256 (omega arith),
-              (
-                p .0,
-                (
-                  r .0,
-                  (
-                    number-below 65536 (suc (last-index (s .log))) (omega arith) (omega arith),
-                    (number-below last-of-all (s .term) t (omega arith), short-command x (r .1) q),
-                  ),
-                ),
-              ),
-            ),
-            q,
-          ),
-          k .1 .2,
-        ),
-      ),
-      k .2,
-      k .3,
-      k .4,
-      k .5,
-    )
+kept-request can l s c i x (g, f, q, o) h k =
+    let n = row-last (s .log) (k .1 .0) in let a = g .1 in let b = g .2 in let z = g .6 in
+    let at : Byte (l .me) = lt-ltb (l .me) 256 (omega arith) in
+    let index : Number (suc (last-index (s .log))) = number-below 65536 _ (omega arith) (omega arith) in
+    let term : Number (s .term) = number-below last-of-all _ (k .0) (omega arith) in
+    let long : length (with-request l c i x s .log) ≤ l .room = omega arith in
+    let p = and-parts (eight c) (eight i && fine x) f in let r = and-parts (eight i) (fine x) (p .1) in
+    let y = and-parts (ltb c (l .clients)) (short x) q .1 in
+    let good = short-command x (r .1) y in
+    (k .0, ((ap suc n, k .1 .0), long, (((at, (p .0, (r .0, (index, (term, good))))), y), k .1 .2)), k .2, k .3, k .4, k .5)
 
 pub keeps-first :
-    (can : ℕ → Bool) (l : Limits) (s : State) (e : Event) → Good-limits can l → readable e ≡ true → good-fields l e ≡ true → turned-by l s e ≡ 0
-    → Keeps l s → Keeps l (first-step l s e)
-keeps-first can l s timeout g f q t k =
-    bool-by (λ b. _≡_ {A = ℕ} (pick (b || ltb (s .term) last-of-all) 0 5) 0 → Keeps l (pick b (with-send true s) (wants l s))) (eqb (s .kind) 2)
-    (λ b o. k) (λ b o. (grind (arith, tells), k .1, k .2, k .3, k .4, k .5)) t
-keeps-first can l s (request c i x) g f q t k =
-    bool-by (λ b. _≡_ {A = ℕ} (pick (b && leb (l .room) (length (s .log))) 4 0) 0 → Keeps l (pick b (with-request l c i x s) s)) (eqb (s .kind) 2)
-    (λ b o. kept-request can l s c i x g f (and-parts _ _ q .1) (grind (arith, tells)) k) (λ b o. k) t
-keeps-first can l s (comes h m) g f q t k = keeps-heard l s h m (and-parts _ _ f .1) (and-parts _ _ q .1) t k
-keeps-first can l s restart g f q t k = (k .0, k .1, k .2, all-many _ (l .servers) [] tt, k .4, k .5)
-keeps-first can l s (garbled n) g f q t k = k
+    (can : ℕ → Bool) (l : Limits) (s : State) (e : Event) → Passing can l s e → Keeps l s → Keeps l (first-step l s e)
+keeps-first can l s timeout (g, f, q, t) k =
+    bool-by (λ b. _≡_ {A = ℕ} (pick (b || ltb (s .term) last-of-all) 0 5) 0 → Keeps l (pick b (with-send true s) (wants l s)))
+    (eqb (s .kind) 2) (λ b o. k) (λ b o. (grind (arith, tells), k .1, k .2, k .3, k .4, k .5)) t
+keeps-first can l s (request c i x) (g, f, q, t) k =
+    bool-by (λ b. _≡_ {A = ℕ} (pick (b && leb (l .room) (length (s .log))) 4 0) 0 → Keeps l (pick b (with-request l c i x s) s))
+    (eqb (s .kind) 2) (λ b o. kept-request can l s c i x (g, f, q, t) (grind (arith, tells)) k) (λ b o. k) t
+keeps-first can l s (comes h m) (g, f, q, t) k = keeps-heard l s h m (and-parts _ _ f .1) (and-parts _ _ q .1) t k
+keeps-first can l s restart (g, f, q, t) k = (k .0, k .1, k .2, all-many _ (l .servers) [] tt, k .4, k .5)
+keeps-first can l s (garbled n) (g, f, q, t) k = k
 
 settled-low : (l : Limits) (s : State) (n : ℕ) (es : List Entry) → s .commit ≤ n → All (λ e. e .index ≤ n) es → settled-to l s es ≤ n
 unfolding settled-to
@@ -166,8 +156,8 @@ settled-low l s n (e ∷ es) h a = pick-by (λ i. i ≤ n) _ _ _ (λ q. a .0) (�
 
 pub keeps-settles : (l : Limits) (s : State) → Keeps l s → Keeps l (settles l s)
 keeps-settles l s k =
-    pick-by (Keeps l) (eqb (s .kind) 2) _ _
-    (λ q. (k .0, k .1, settled-low l s (l .room) (s .log) (k .2) (row-index (l .room) (s .log) (k .1 .0) (k .1 .1)), k .3, k .4, k .5)) (λ q. k)
+    let c = settled-low l s (l .room) (s .log) (k .2) (row-index (l .room) (s .log) (k .1 .0) (k .1 .1)) in
+    pick-by (Keeps l) (eqb (s .kind) 2) _ _ (λ q. (k .0, k .1, c, k .3, k .4, k .5)) (λ q. k)
 
 pub keeps-sent : (l : Limits) (s : State) → Keeps l s → Keeps l (sent-now s)
 keeps-sent l s k = pick-by (Keeps l) (eqb (s .kind) 2) _ _ (λ q. k) (λ q. k)
@@ -175,15 +165,8 @@ keeps-sent l s k = pick-by (Keeps l) (eqb (s .kind) 2) _ _ (λ q. k) (λ q. k)
 pub keeps-one : (l : Limits) (s : State) (e : Entry) → Kept-entry e → Keeps l s → Keeps l (do-one s e)
 keeps-one l s e p k =
     let v = leaves (e .command) (p .0 .1 .1 .1 .1 .1) (p .1) in
-    pick-by (Keeps l) (is-new s e) _ _
-    (λ q. (
-      k .0,
-      k .1,
-      k .2,
-      k .3,
-      done-values (e .command) (s .store) v (k .4),
-      all-set-at _ (s .cache) (e .client) _ (reply-small (e .command) (s .store) v (k .4)) (k .5),
-    )) (λ q. k)
+    let d = done-values (e .command) (s .store) v (k .4) in let r = reply-small (e .command) (s .store) v (k .4) in
+    pick-by (Keeps l) (is-new s e) _ _ (λ q. (k .0, k .1, k .2, k .3, d, all-set-at _ (s .cache) (e .client) _ r (k .5))) (λ q. k)
 
 keeps-all : (l : Limits) (s : State) (es : List Entry) → All Kept-entry es → Keeps l s → Keeps l (do-all s es)
 unfolding do-all
@@ -209,12 +192,6 @@ heard-send l s h (vote t ok) = grind (arith, tells)
 heard-send l s h (append t i u es c) = grind (arith, tells)
 heard-send l s h (appended t i ok) = grind (arith, tells)
 
--- what is turned away by nothing passes its checks
-pub passes : (l : Limits) (s : State) (e : Event) → turned l s e ≡ 0 → (good-fields l e ≡ true) × (turned-by l s e ≡ 0)
-passes l s e t =
-    let p = pick-first (λ (n : ℕ). n ≡ 0) ((eqb (event-number e) 255 || (l .events-can) (event-number e)) && good-fields l e) (turned-by l s e) 2 t (λ z. omega arith) in
-    (and-parts _ _ (p .0) .1, p .1)
-
 calm-first : (l : Limits) (s : State) (e : Event) → s .send ≡ false → Calm (first-step l s e)
 calm-first l s timeout z =
     bool-by (λ b. eqb (s .kind) 2 ≡ b → Calm (pick b (with-send true s) (wants l s))) (eqb (s .kind) 2)
@@ -236,22 +213,33 @@ quiet-all l s c =
 abbrev pub Held : Limits → State → Type 0
 Held l s = Keeps l s × (s .send ≡ false)
 
-held-after : (can : ℕ → Bool) (l : Limits) (s : State) (e : Event) → Good-limits can l → readable e ≡ true → Held l s → Held l (after l s e)
+held-after :
+    (can : ℕ → Bool) (l : Limits) (s : State) (e : Event) → Good-limits can l → readable e ≡ true → Held l s → Held l (after l s e)
 held-after can l s e g f h =
     pick-by (Held l) (eqb (turned l s e) 0) _ _
-    (λ t. let p = passes l s e (eqb-true (turned l s e) 0 t) in so e f (keeps-first can l s e g f (p .0) (p .1) (h .0)) (calm-first l s e (h .1))) (λ t. h)
+    (λ t. so e (keeps-first can l s e (passes can l s e g f (eqb-true (turned l s e) 0 t)) (h .0)) (calm-first l s e (h .1))) (λ t. h)
   where
     on : (s : State) → Keeps l s → Calm s → Held l (after-all l s)
     on s k c = (keeps-finished l (sent-now (settles l s)) (keeps-sent l (settles l s) (keeps-settles l s k)), quiet-all l s c)
 
-    so : (e : Event) → readable e ≡ true → Keeps l (first-step l s e) → Calm (first-step l s e) → Held l (stepped l s e)
-    so timeout f k c = on (first-step l s timeout) k c
-    so (request d i x) f k c = on (first-step l s (request d i x)) k c
-    so (comes j m) f k c = on (first-step l s (comes j m)) k c
-    so restart f k c = (k, refl)
-    so (garbled n) f k c = (k, h .1)
+    so : (e : Event) → Keeps l (first-step l s e) → Calm (first-step l s e) → Held l (stepped l s e)
+    so timeout k c = on (first-step l s timeout) k c
+    so (request d i x) k c = on (first-step l s (request d i x)) k c
+    so (comes j m) k c = on (first-step l s (comes j m)) k c
+    so restart k c = (k, refl)
+    so (garbled n) k c = (k, h .1)
 
 pub held : (can : ℕ → Bool) (l : Limits) (es : List Event) → Good-limits can l → all-readable es ≡ true → Held l (state l es)
 unfolding state all-readable
-held can l [] g f = ((omega arith, (tt, omega arith, tt), omega arith, all-many _ (l .servers) [] tt, tt, all-many _ (l .clients) no-cached (tt, tt)), refl)
+held can l [] g f = (
+  (
+    omega arith,
+    (tt, omega arith, tt),
+    omega arith,
+    all-many _ (l .servers) [] tt,
+    tt,
+    all-many _ (l .clients) no-cached (tt, tt),
+  ),
+  refl,
+)
 held can l (e ∷ es) g f = let p = and-parts _ _ f in held-after can l (state l es) e g (p .0) (held can l es g (p .1))

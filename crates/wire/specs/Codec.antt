@@ -58,6 +58,10 @@ Round-trip = (e : Event) → Writable e → read-event (write-event e) ≡ e
 abbrev pub Injective : Type 0
 Injective = (e d : Event) → Writable e → Writable d → write-event e ≡ write-event d → e ≡ d
 
+-- what is written is bytes
+abbrev pub Written-is-bytes : Type 0
+Written-is-bytes = (e : Event) → Writable e → bytes (write-event e) ≡ true
+
 -- and bytes that are read as an event are that event's
 abbrev pub Written-back : Type 0
 Written-back = (bs : List ℕ) → Slice bs → ((n : ℕ) → read-event bs ≡ garbled n → ⊥) → write-event (read-event bs) ≡ bs
