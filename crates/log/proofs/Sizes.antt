@@ -15,7 +15,8 @@ use Rattle.log.specs.Rows.{row-in, command-in}
 use Rattle.log.specs.Bytes.{Sound-command, Sound-row, write-expected, write-last, expected-size, last-size}
 use Rattle.log.proofs.Tests.{bool-by, pick-by}
 use Rattle.log.proofs.Written.{length-part}
-use Rattle.log.proofs.Puts.{length-numbers, length-text, length-text-in, length-perhaps}
+use Rattle.wire_write.proofs.Texts.{length-text, length-text-in, length-perhaps}
+use Rattle.log.proofs.Rooms.{length-numbers}
 use Rattle.log.proofs.Commands.{first-of, name-bytes, expected-bytes, last-bytes, by-parts}
 use Rattle.log.proofs.Entries.{numbers-bytes, entry-bytes}
 

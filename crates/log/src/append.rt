@@ -9,8 +9,8 @@ ghost use Rattle.log.specs.Places.{Log};
 ghost use Rattle.log.specs.Numbers.{entry-by};
 use crate::row::Numbers;
 use crate::row::ROW;
+use crate::row::pack_row;
 use crate::row::place;
-use crate::row::write_row;
 use wire_read::parts::Command;
 
 // The region of any log of that length becomes the region of the log with the entry.
@@ -22,5 +22,5 @@ pub fn push(region: &mut [u64], len: usize, numbers: Numbers, b: &[u8], command:
         → now (region .exit) ≡ log-region room (entry-by numbers i (command-of (now (b .entry)) command) ∷ es)) ⌝ }
 {
     let at = place(len + 1);
-    write_row(&mut region[at..at + ROW], numbers, b, command);
+    pack_row(&mut region[at..at + ROW], numbers, b, command);
 }

@@ -3,7 +3,6 @@
 pub mod append;
 pub mod command;
 pub mod find;
-pub mod put;
 pub mod replace;
 pub mod row;
 pub mod size;

@@ -11,14 +11,14 @@ ghost use Rattle.log.specs.Rows.{row-words, log-words, log-region, Row};
 ghost use Rattle.log.specs.Places.{Log};
 use crate::row::Numbers;
 use crate::row::ROW;
+use crate::row::pack_row;
 use crate::row::place;
-use crate::row::write_row;
 use wire_read::forward::next_entry;
 use wire_read::parts::Entries;
 use wire_read::parts::Entry;
 
 // An entry of a message into its row.
-fn write_entry(row: &mut [u64], b: &[u8], entry: Entry)
+fn pack_entry(row: &mut [u64], b: &[u8], entry: Entry)
     requires size { ⌜ length (now row) ≡ 80 ⌝ }
     requires within { ⌜ Entry-in (now b) entry ⌝ }
     ensures { λ _. ⌜ now (row .exit) ≡ row-words (entry-of (now (b .entry)) entry) ⌝ }
@@ -29,11 +29,11 @@ fn write_entry(row: &mut [u64], b: &[u8], entry: Entry)
         client: entry.client,
         number: entry.id,
     };
-    write_row(row, numbers, b, entry.command);
+    pack_row(row, numbers, b, entry.command);
 }
 
 // The entries of a message into as many rows.
-fn write_rows(rows: &mut [u64], b: &[u8], entries: Entries)
+fn pack_rows(rows: &mut [u64], b: &[u8], entries: Entries)
     requires size { ⌜ length (now rows) ≡ 80 * entries .count ⌝ }
     requires low { ⌜ entries .count ≤ 2 ^ 32 ⌝ }
     requires there { ⌜ Entries-in (now b) entries ⌝ }
@@ -44,7 +44,7 @@ fn write_rows(rows: &mut [u64], b: &[u8], entries: Entries)
     while rest.count > 0 {
         let (entry, next) = next_entry(b, rest);
         let at = place(rest.count as usize);
-        write_entry(&mut rows[at..at + ROW], b, entry);
+        pack_entry(&mut rows[at..at + ROW], b, entry);
         rest = next;
     }
 }
@@ -72,7 +72,7 @@ pub fn replace(region: &mut [u64], len: usize, index: usize, b: &[u8], entries: 
         → now (region .exit) ≡ log-region room (entries-of (now (b .entry)) entries ++ up-to index es)) ⌝ }
 {
     let end = index + entries.count as usize;
-    write_rows(&mut region[place(index + 1)..place(end + 1)], b, entries);
+    pack_rows(&mut region[place(index + 1)..place(end + 1)], b, entries);
     if end < len {
         clear(region, end, len);
     }

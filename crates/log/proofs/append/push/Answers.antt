@@ -21,6 +21,6 @@ returns c room i es long is =
     let w = length-append (log-words es) (replicate {A = ℕ} (80 * (room - length es)) 0) in
     let z = length-replicate {A = ℕ} (80 * (room - length es)) 0 in
     let k = length-log-words es in
-    ap (λ (z : List ℕ). putMid at (at + 80 - at) z (c .write-row .last .row)) is
-    ∙ pushed room es (entry-by (c .args .numbers) i (command-of (c .args .b .now) (c .args .command))) (c .write-row .last .row)
-    at (at + 80 - at) (omega arith) (omega arith) (omega arith) (c .write-row .ensures i)
+    ap (λ (z : List ℕ). putMid at (at + 80 - at) z (c .pack-row .last .row)) is
+    ∙ pushed room es (entry-by (c .args .numbers) i (command-of (c .args .b .now) (c .args .command))) (c .pack-row .last .row)
+    at (at + 80 - at) (omega arith) (omega arith) (omega arith) (c .pack-row .ensures i)

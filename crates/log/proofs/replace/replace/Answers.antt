@@ -20,14 +20,14 @@ returns-then-end-len c room es long row fits is =
     let width : ℕ = c .place-2 .result - at in
     let a = c .place .ensures in
     let b = c .place-2 .ensures in
-    let count = c .write-rows .ensures .count in
+    let count = c .pack-rows .ensures .count in
     let l = ap length is ∙ length-region room es (omega arith) in
     let there = c .pre .room in
     let less = c .if-end-len .taken in
-    let first : putMid at width (c .args .region .now) (c .write-rows .last .rows) ≡ replacing room index new es =
-    ap (λ (z : List ℕ). putMid at width z (c .write-rows .last .rows)) is
-    ∙ written room index new es (c .write-rows .last .rows) at width row (omega arith) (omega arith) (omega arith)
-    (omega arith) (omega arith) (c .write-rows .ensures .rows) in
+    let first : putMid at width (c .args .region .now) (c .pack-rows .last .rows) ≡ replacing room index new es =
+    ap (λ (z : List ℕ). putMid at width z (c .pack-rows .last .rows)) is
+    ∙ written room index new es (c .pack-rows .last .rows) at width row (omega arith) (omega arith) (omega arith)
+    (omega arith) (omega arith) (c .pack-rows .ensures .rows) in
     c .clear .ensures
     ∙ (ap (λ (z : List ℕ). putMid (80 * end) (80 * (c .args .len - end)) z (replicate (80 * (c .args .len - end)) 0)) first
     ∙ cleared room index new es (replicate (80 * (c .args .len - end)) 0) (80 * end) (80 * (c .args .len - end)) row
@@ -41,11 +41,11 @@ returns-else-end-len c room es long row fits is =
     let width : ℕ = c .place-2 .result - at in
     let a = c .place .ensures in
     let b = c .place-2 .ensures in
-    let count = c .write-rows .ensures .count in
+    let count = c .pack-rows .ensures .count in
     let l = ap length is ∙ length-region room es (omega arith) in
     let there = c .pre .room in
     let none = c .if-end-len .left in
-    ap (λ (z : List ℕ). putMid at width z (c .write-rows .last .rows)) is
-    ∙ (written room index new es (c .write-rows .last .rows) at width row (omega arith) (omega arith) (omega arith)
-    (omega arith) (omega arith) (c .write-rows .ensures .rows)
+    ap (λ (z : List ℕ). putMid at width z (c .pack-rows .last .rows)) is
+    ∙ (written room index new es (c .pack-rows .last .rows) at width row (omega arith) (omega arith) (omega arith)
+    (omega arith) (omega arith) (c .pack-rows .ensures .rows)
     ∙ none-left room index new es row (omega arith) (omega arith) (omega arith))

@@ -7,7 +7,7 @@ use borrow.Rule.Slice.PartMut.{putMid}
 use Rattle.servers.specs.Server.{Entry}
 use Rattle.wire_read.specs.Means.{entry-of, entries-of}
 use Rattle.log.specs.Rows.{log-words}
-use Rattle.log.proofs.replace.write_rows.Needs as need
+use Rattle.log.proofs.replace.pack_rows.Needs as need
 use Rattle.wire_read.proofs.Passing.{entries-length}
 use Rattle.log.proofs.Replaced.{rows-more, rows-start, rows-end}
 
@@ -36,9 +36,9 @@ loop-rest-again c =
     ∙ c .loop-rest .inv .2 in (
       omega arith,
       c .next-entry .ensures .rest,
-      ap (λ (k : ℕ). log-words new ++ drop (80 * k) (putMid at (at + 80 - at) (c .loop-rest .rows) (c .write-entry .last .row))) less
-          ∙ rows-more n at (at + 80 - at) new e (c .loop-rest .rows) (c .write-entry .last .row) (log-words (entries-of bs (c .args .entries)))
-          some (omega arith) place (omega arith) (c .write-entry .ensures) before,
+      ap (λ (k : ℕ). log-words new ++ drop (80 * k) (putMid at (at + 80 - at) (c .loop-rest .rows) (c .pack-entry .last .row))) less
+          ∙ rows-more n at (at + 80 - at) new e (c .loop-rest .rows) (c .pack-entry .last .row) (log-words (entries-of bs (c .args .entries)))
+          some (omega arith) place (omega arith) (c .pack-entry .ensures) before,
     )
 
 pub returns : need.returns

@@ -8,7 +8,7 @@ use Rattle.std.proofs.shelf.Lists.{length-set}
 use Rattle.texts.specs.Words.{text-words, perhaps-words}
 use Rattle.texts.proofs.Cells.{length-text-words, length-perhaps-words}
 use Rattle.wire_read.specs.Means.{text-of, perhaps-of}
-use Rattle.log.proofs.command.write_parts.Needs as need
+use Rattle.log.proofs.command.pack_parts.Needs as need
 use Rattle.log.proofs.Written.{three-parts, text-written, length-part, length-put}
 
 pub returns : need.returns
@@ -18,7 +18,7 @@ returns c =
     let w₀ : List ℕ = set (c .args .words .now) 0 (c .args .tag) in
     let l₀ = length-set (c .args .words .now) 0 (c .args .tag) in
     let k : List ℕ = c .write-text .last .row in
-    let e : List ℕ = c .write-expected .last .words in
+    let e : List ℕ = c .pack-expected .last .words in
     let v : List ℕ = c .write-text-2 .last .row in
     let p : k ≡ text-words 8 (text-of bs (c .args .name)) =
     text-written 8 k (take 9 (drop 1 w₀)) (c .bytes-of .result .now) (text-of bs (c .args .name))
@@ -26,7 +26,7 @@ returns c =
     let lk : length k ≡ 9 = ap length p ∙ length-text-words 8 (text-of bs (c .args .name)) in
     let w₁ : List ℕ = putMid 1 9 w₀ k in
     let l₁ = length-put 1 9 w₀ k lk (omega arith) in
-    let q : e ≡ perhaps-words 32 (perhaps-of bs (c .args .expected)) = c .write-expected .ensures in
+    let q : e ≡ perhaps-words 32 (perhaps-of bs (c .args .expected)) = c .pack-expected .ensures in
     let le : length e ≡ 33 = ap length q ∙ length-perhaps-words 32 (perhaps-of bs (c .args .expected)) in
     let w₂ : List ℕ = putMid 10 33 w₁ e in
     let l₂ = length-put 10 33 w₁ e le (omega arith) in

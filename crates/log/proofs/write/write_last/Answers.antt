@@ -1,5 +1,5 @@
 use native.Mathlib.Omega.{arith}
-use mathlib.Core.Path.{_≡_, ap}
+use mathlib.Core.Path.{_≡_, sym, ap}
 use mathlib.Core.Bool.{Bool, true, _||_}
 use mathlib.Core.List.{List, []}
 use Prim.Native.Nat.{ℕ}
@@ -8,14 +8,13 @@ use Rattle.std.proofs.shelf.Ways.{tells}
 use Rattle.servers.specs.Store.{pick}
 use Rattle.texts.specs.Words.{text-in}
 use Rattle.wire.specs.Write.{write-text}
-use Rattle.log.specs.Bytes.{write-last}
-use Rattle.log.proofs.write.put_last.Needs as need
-use Rattle.log.proofs.Puts.{puts-nothing}
+use Rattle.wire_write.proofs.Putting.{writes-none, writes-as}
+use Rattle.log.proofs.write.write_last.Needs as need
 
 pub returns-then-tag-eq2 : need.returns-then-tag-eq2
 returns-then-tag-eq2 c =
-    let ws : List ℕ = c .args .words .now in
+    let room = c .pre .room in
     let h = c .if-tag-eq2 .either in
     let t : (eqb (c .args .tag) 0 || eqb (c .args .tag) 2) ≡ true = grind (arith, tells) in
-    puts-nothing (c .args .out .now) (write-last (c .args .tag) (text-in ws)) (c .args .at)
-    (ap (λ (b : Bool). pick b [] (write-text (text-in ws))) t)
+    writes-as (sym (ap (λ (b : Bool). pick b [] (write-text (text-in (c .args .words .now)))) t))
+    (writes-none (c .args .at) (c .args .out .now) (omega arith))

@@ -4,7 +4,7 @@ use mathlib.Core.List.{_++_}
 use lib.ListN.{length, drop}
 use Rattle.wire_read.specs.Means.{Entries-in, entries-of}
 use Rattle.log.specs.Rows.{log-words}
-use Rattle.log.proofs.replace.write_rows.Given as given
+use Rattle.log.proofs.replace.pack_rows.Given as given
 
 -- the rows of the entries that are left, and those that are written, are the whole
 abbrev pub Inv-loop-rest : given.InvT-loop-rest
