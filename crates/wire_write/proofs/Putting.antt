@@ -1,6 +1,6 @@
 -- Bytes written next to each other are one piece, whichever was written first.
 use native.Mathlib.Omega.{arith}
-use mathlib.Core.Path.{_≡_, refl, sym, _∙_, ap}
+use mathlib.Core.Path.{_≡_, refl, sym, _∙_, ap, subst}
 use mathlib.Core.List.{List, [], _∷_, _++_}
 use Prim.Native.Nat.{ℕ, suc, _+_, _-_, _≤_, _<_}
 use lib.ListN.{length, take, drop, set}
@@ -100,3 +100,7 @@ pub writes-part :
 writes-part at n bs xs ys e l h =
     let m : (at + n) - at ≡ n = omega arith in
     record { bytes = rw (e, m, l, ← drop-drop n at xs) refl; next = omega arith; room = h }
+
+-- the same bytes in other words
+pub writes-as : {at r : ℕ} {p q xs ys : List ℕ} → p ≡ q → Writes at p xs ys r → Writes at q xs ys r
+writes-as {at = at} {r = r} {xs = xs} {ys = ys} e w = let P : List ℕ → Type 0 = λ z. Writes at z xs ys r in subst P e w
