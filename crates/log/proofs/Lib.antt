@@ -8,4 +8,5 @@ pub mod Rooms
 pub mod Commands
 pub mod Entries
 pub mod Sizes
+pub mod Sound
 pub mod Replaced

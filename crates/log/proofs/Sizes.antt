@@ -37,7 +37,8 @@ last-long n ws l h =
 
 -- the bytes of a command, by the first words of its parts
 pub command-long : (ws : List ℕ) → length ws ≡ 76 → Sound-command ws
-    → length (write-command (command-in ws)) ≡ 9 + getD ws 1 0 + (expected-size (getD ws 0 0) (getD ws 10 0) + last-size (getD ws 0 0) (getD ws 43 0))
+    → length (write-command (command-in ws))
+    ≡ 9 + getD ws 1 0 + (expected-size (getD ws 0 0) (getD ws 10 0) + last-size (getD ws 0 0) (getD ws 43 0))
 command-long ws size s =
     let k = s .name in let e = s .expected in let v = s .text in
     let f₁ = first-of 1 9 ws (omega arith) in

@@ -3,6 +3,7 @@
 pub mod append;
 pub mod command;
 pub mod find;
+pub mod promises;
 pub mod replace;
 pub mod row;
 pub mod size;

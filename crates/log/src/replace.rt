@@ -54,7 +54,8 @@ fn clear(region: &mut [u64], index: usize, end: usize)
     requires low { ⌜ end ≤ 2 ^ 32 ⌝ }
     requires some { ⌜ index ≤ end ⌝ }
     requires there { ⌜ 80 * end ≤ length (now region) ⌝ }
-    ensures { λ _. ⌜ now (region .exit) ≡ putMid (80 * index) (80 * (end - index)) (now (region .entry)) (replicate (80 * (end - index)) 0) ⌝ }
+    ensures { λ _. ⌜ now (region .exit) ≡ putMid (80 * index) (80 * (end - index)) (now (region .entry))
+        (replicate (80 * (end - index)) 0) ⌝ }
 {
     region[place(index + 1)..place(end + 1)].fill(0);
 }

@@ -62,7 +62,8 @@ fn write_command(out: &mut [u8], at: usize, words: &[u64]) -> usize
 fn write_numbers(out: &mut [u8], at: usize, numbers: Numbers, index: u64) -> usize
     requires server { ⌜ numbers .server < 256 ⌝ }
     requires room { ⌜ at + 33 ≤ length (now out) ⌝ }
-    ensures bytes { λ r. ⌜ Writes at (write-numbers (numbers .server) (numbers .client) (numbers .number) index (numbers .term)) (now (out .entry)) (now (out .exit)) r ⌝ }
+    ensures bytes { λ r. ⌜ Writes at (write-numbers (numbers .server) (numbers .client) (numbers .number) index (numbers .term))
+        (now (out .entry)) (now (out .exit)) r ⌝ }
     ensures next { λ r. ⌜ r ≡ at + 33 ⌝ }
 {
     let client = write_byte(out, at, numbers.server as u8);

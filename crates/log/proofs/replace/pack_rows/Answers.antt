@@ -37,7 +37,8 @@ loop-rest-again c =
       omega arith,
       c .next-entry .ensures .rest,
       ap (λ (k : ℕ). log-words new ++ drop (80 * k) (putMid at (at + 80 - at) (c .loop-rest .rows) (c .pack-entry .last .row))) less
-          ∙ rows-more n at (at + 80 - at) new e (c .loop-rest .rows) (c .pack-entry .last .row) (log-words (entries-of bs (c .args .entries)))
+          ∙ rows-more n at (at + 80 - at) new e (c .loop-rest .rows) (c .pack-entry .last .row)
+          (log-words (entries-of bs (c .args .entries)))
           some (omega arith) place (omega arith) (c .pack-entry .ensures) before,
     )
 

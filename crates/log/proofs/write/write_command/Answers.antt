@@ -15,11 +15,12 @@ write-text-in-expecting-requires c κs =
     let long = length-part 1 9 ws (omega arith) in
     let first = first-of 1 9 ws (omega arith) in
     let sound = c .pre .sound .name in
+    let room = room-name ws (c .pre .sound .tag) (c .pre .room) (c .write-byte-named .ensures .bytes) in
     record {
       some = omega arith;
       sound = omega arith;
       room = room-first (name-bytes ws) (expected-bytes ws ++ last-bytes ws) (c .write-byte-named .result)
-          (length (c .write-byte-named .last .out)) (room-name ws (c .pre .sound .tag) (c .pre .room) (c .write-byte-named .ensures .bytes));
+          (length (c .write-byte-named .last .out)) room;
     }
 
 pub write-expected-last-requires : need.write-expected-last-requires

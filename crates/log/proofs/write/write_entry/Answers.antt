@@ -30,11 +30,14 @@ write-command-requires c κs =
     let rest = command-rest ws (c .pre .size) in
     let long = length-drop 4 ws in
     let size = c .pre .size in
-    let numbers = writes-as (numbers-same (c .args .index) ws (c .read .result) (c .read .ensures)) (c .write-numbers-next .ensures .bytes) in
+    let same = numbers-same (c .args .index) ws (c .read .result) (c .read .ensures) in
+    let numbers = writes-as same (c .write-numbers-next .ensures .bytes) in
+    let next : ℕ = c .write-numbers-next .result in
+    let out : List ℕ = c .write-numbers-next .last .out in
     record {
       size = ap length rest ∙ omega arith;
       sound = subst (λ (x : List ℕ). Sound-command x) (sym rest) (c .pre .sound .command);
-      room = subst (λ (x : List ℕ). c .write-numbers-next .result + length (write-command (command-in x)) ≤ length (c .write-numbers-next .last .out))
+      room = subst (λ (x : List ℕ). next + length (write-command (command-in x)) ≤ length out)
           (sym rest)
           (room-next (write-command (command-in (drop 4 ws)))
           (room-both (c .args .index) (c .args .at) (length (c .args .out .now)) ws (c .pre .room)) numbers);

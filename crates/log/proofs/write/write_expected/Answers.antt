@@ -13,5 +13,6 @@ use Rattle.log.proofs.write.write_expected.Needs as need
 pub returns-else-tag-eq3 : need.returns-else-tag-eq3
 returns-else-tag-eq3 c =
     let room = c .pre .room in
-    writes-as (sym (ap (λ (b : Bool). pick b (write-perhaps (perhaps-in (c .args .words .now))) []) (ne-eqb (c .args .tag) 3 (c .if-tag-eq3 .left))))
+    let other = ne-eqb (c .args .tag) 3 (c .if-tag-eq3 .left) in
+    writes-as (sym (ap (λ (b : Bool). pick b (write-perhaps (perhaps-in (c .args .words .now))) []) other))
     (writes-none (c .args .at) (c .args .out .now) (omega arith))

@@ -6,6 +6,7 @@ pub returns : need.returns
 returns c =
     record {
       bytes = writes-then (c .write-byte-client .ensures .bytes) (writes-then (c .write-number-number .ensures .bytes)
-          (writes-then (c .write-number-place .ensures .bytes) (writes-then (c .write-number-term .ensures .bytes) (c .write-number .ensures .bytes))));
+          (writes-then (c .write-number-place .ensures .bytes)
+          (writes-then (c .write-number-term .ensures .bytes) (c .write-number .ensures .bytes))));
       next = omega arith;
     }
