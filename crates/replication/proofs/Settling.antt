@@ -44,11 +44,11 @@ unfolding settled-to row-in
 settled-more l s ws i h = rw (log-in-more i ws h) refl
 
 -- settled there, or further down
-pub settled-yes : (l : Limits) (s : State) (ws : List ℕ) (i : ℕ) → entry-in i ws .term ≡ s .term → s .commit < i
+pub settled-yes : (l : Limits) (s : State) (ws : List ℕ) (i : ℕ) → eqb (entry-in i ws .term) (s .term) ≡ true → s .commit < i
     → l .servers / 2 < have-it i (s .matches) → settled-to l s (log-in i ws) ≡ i
 settled-yes l s ws i e k h =
     settled-more l s ws i (omega arith)
-    ∙ pick-true _ _ _ (and-from _ _ (and-from _ _ (eq-eqb _ _ e) (lt-ltb _ _ k)) (lt-ltb _ _ h))
+    ∙ pick-true _ _ _ (and-from _ _ (and-from _ _ e (lt-ltb _ _ k)) (lt-ltb _ _ h))
 
 pub settled-no : (l : Limits) (s : State) (ws : List ℕ) (i : ℕ) → 0 < i → decides l s ws i ≡ false
     → settled-to l s (log-in i ws) ≡ settled-to l s (log-in (i - 1) ws)

@@ -22,14 +22,21 @@ fn has(mem: &[u64], h: usize, index: usize) -> bool
     index as u64 <= match_of(mem, h)
 }
 
-// The term of an entry.
-fn term_at(mem: &[u64], index: usize) -> u64
+// Whether so many servers are more than half.
+fn is_enough(have: usize, servers: usize) -> bool
+    ensures { λ r. ⌜ r ≡ ltb (servers / 2) have ⌝ }
+{
+    have > servers / 2
+}
+
+// Whether an entry is of a term.
+fn is_of(mem: &[u64], index: usize, term: u64) -> bool
     requires held { ⌜ Held (now mem) ⌝ }
     requires some { ⌜ 0 < index ⌝ }
     requires there { ⌜ index ≤ room-in (now mem) ⌝ }
-    ensures { λ r. ⌜ r ≡ entry-in index (log-part (now (mem .entry))) .term ⌝ }
+    ensures { λ r. ⌜ r ≡ eqb (entry-in index (log-part (now (mem .entry))) .term) term ⌝ }
 {
-    find::term(log_part(mem), index)
+    find::term(log_part(mem), index) == term
 }
 
 // Goes from the end of the log down to what is settled already, and no further.
@@ -43,12 +50,12 @@ pub fn settled_to(mem: &[u64]) -> u64
     let mut i = head::last_index(mem) as usize;
     let mut settled = commit;
     'settled: while commit < i {
-        if term_at(mem, i) == term {
+        if is_of(mem, i, term) {
             let mut have = 0;
             for j in 0..servers {
                 if has(mem, j, i) {
                     have += 1;
-                    if have > servers / 2 {
+                    if is_enough(have, servers) {
                         settled = i;
                         break 'settled;
                     }
