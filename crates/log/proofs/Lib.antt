@@ -3,3 +3,8 @@ pub mod Places
 pub mod Rows
 pub mod Regions
 pub mod Found
+pub mod Written
+pub mod Puts
+pub mod Commands
+pub mod Entries
+pub mod Sizes

@@ -5,6 +5,7 @@ use Prim.Native.Nat.{ℕ}
 use lib.ListN.{getD}
 use Rattle.std.specs.declared.option.Option.{Option}
 use Rattle.std.specs.declared.option.Option.the-variants.{Some, None}
+use Rattle.servers.specs.Store.{Command}
 use Rattle.servers.specs.Server.{Entry}
 use Rattle.log.specs.declared.row.Numbers.{Numbers}
 
@@ -19,3 +20,7 @@ numbers-in ws = record { term = getD ws 0 0; server = getD ws 1 0; client = getD
 abbrev pub term-in : List Entry → Option ℕ
 term-in [] = None
 term-in (e ∷ es) = Some (e .term)
+
+-- an entry by its numbers, its index and its command
+abbrev pub entry-by : Numbers → ℕ → Command → Entry
+entry-by n i x = record { at = n .server; client = n .client; id = n .number; index = i; term = n .term; command = x }

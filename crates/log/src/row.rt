@@ -3,8 +3,12 @@ ghost use mathlib.Core.Path.{_≡_};
 ghost use mathlib.Core.List.{_∷_, _++_};
 ghost use Prim.Native.Nat.{ℕ, _+_, _-_, _*_, _^_, _<_, _≤_};
 ghost use lib.ListN.{length, getD, drop, take};
+ghost use Rattle.wire_read.specs.Means.{command-of, Command-in};
+ghost use Rattle.log.specs.Rows.{row-words};
 ghost use Rattle.log.specs.Places.{row-place};
-ghost use Rattle.log.specs.Numbers.{numbers-in};
+ghost use Rattle.log.specs.Numbers.{numbers-in, entry-by};
+use crate::command::write_command;
+use wire_read::parts::Command;
 
 // How many words a row has.
 pub const ROW: usize = 80;
@@ -50,4 +54,14 @@ pub fn place(index: usize) -> usize
     ensures { λ r. ⌜ r ≡ row-place index ⌝ }
 {
     ROW * (index - 1)
+}
+
+// An entry into its row, the command from the bytes that it was read from. Whatever its index is, the row is the same.
+pub fn write_row(row: &mut [u64], numbers: Numbers, b: &[u8], command: Command)
+    requires size { ⌜ length (now row) ≡ 80 ⌝ }
+    requires within { ⌜ Command-in (now b) command ⌝ }
+    ensures { λ _. ⌜ ((i : ℕ) → now (row .exit) ≡ row-words (entry-by numbers i (command-of (now (b .entry)) command))) ⌝ }
+{
+    numbers.write(row);
+    write_command(&mut row[4..80], b, command);
 }

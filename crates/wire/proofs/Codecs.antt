@@ -7,7 +7,7 @@ use Prim.Native.Nat.{ℕ, suc}
 use lib.Dec.{ltb}
 use lib.ListN.{length}
 use Rattle.std.proofs.shelf.Lists.{append-assoc}
-use Rattle.std.proofs.shelf.Tests.{and-parts}
+use Rattle.std.proofs.shelf.Tests.{and-parts, and-from}
 use Rattle.servers.specs.Promise.{all-below, bytes}
 use Rattle.wire.specs.Read.{Read, got, stuck, and-then}
 
@@ -24,6 +24,7 @@ pub data Seen {X C : Type 0} (write : X → List ℕ) (Good : X → Type 0) (rea
 pub record Codec {X C : Type 0} (value : X → C) (write : X → List ℕ) (Good : X → Type 0) (read : List ℕ → Read C) : Type 0 where
   pub some : X
   pub good : Good some
+  pub low : (x : X) → Good x → bytes (write x) ≡ true
   pub back : (x : X) (rest : List ℕ) → Good x → read (write x ++ rest) ≡ got (value x) rest
   pub seen : (bs : List ℕ) → bytes bs ≡ true → Seen write Good read bs
 
@@ -35,6 +36,13 @@ unfolding all-below
 bytes-rest [] b h = h
 bytes-rest (x ∷ a) b h = bytes-rest a b (and-parts (ltb x 256) (bytes (a ++ b)) h .1)
 
+pub bytes-append : (a b : List ℕ) → bytes a ≡ true → bytes b ≡ true → bytes (a ++ b) ≡ true
+unfolding all-below
+bytes-append [] b p q = q
+bytes-append (x ∷ a) b p q =
+    let h = and-parts (ltb x 256) (bytes a) p in
+    and-from (ltb x 256) (bytes (a ++ b)) (h .0) (bytes-append a b (h .1) q)
+
 -- one codec after another, which may go by what was read before
 pub then :
     {A B C : Type 0} {w : A → List ℕ} {g : A → Type 0} {r : List ℕ → Read A} {value : A → B → C} {v : B → List ℕ} {h : A → B → Type 0}
@@ -44,6 +52,7 @@ then {A} {B} {C} {w} {g} {r} {value} {v} {h} {k} c d =
     record {
       some = (c .some, d (c .some) .some);
       good = (c .good, d (c .some) .good);
+      low = λ x q. bytes-append (w (x .0)) (v (x .1)) (c .low (x .0) (q .0)) (d (x .0) .low (x .1) (q .1));
       back = λ x rest q. on x rest q;
       seen = λ bs q. first bs q (c .seen bs q);
     }
@@ -84,7 +93,13 @@ pub last :
     {X A C : Type 0} {value : X → A} {w : X → List ℕ} {g : X → Type 0} {r : List ℕ → Read A} → Codec value w g r → (f : A → C)
     → Codec (λ x. f (value x)) w g (λ bs. and-then (r bs) (λ a rest. got (f a) rest))
 last {X} {A} {C} {value} {w} {g} {r} c f =
-    record { some = c .some; good = c .good; back = λ x rest q. ap on (c .back x rest q); seen = λ bs q. so bs (c .seen bs q) }
+    record {
+      some = c .some;
+      good = c .good;
+      low = c .low;
+      back = λ x rest q. ap on (c .back x rest q);
+      seen = λ bs q. so bs (c .seen bs q);
+    }
   where
     on : Read A → Read C
     on y = and-then y (λ a rest. got (f a) rest)
@@ -101,8 +116,11 @@ pub recode :
     → Codec value w g r → (to : X → Y) → ((x : X) → g x → g′ (to x) × (w′ (to x) ≡ w x))
     → (from : Y → X) → ((y : Y) → g′ y → g (from y) × (w (from y) ≡ w′ y) × (value (from y) ≡ value′ y)) → Codec value′ w′ g′ r
 recode {X} {Y} {C} {value} {w} {g} {r} {value′} {w′} {g′} c to there from here =
-    record { some = to (c .some); good = there (c .some) (c .good) .0; back = on; seen = λ bs q. so bs (c .seen bs q) }
+    record { some = to (c .some); good = there (c .some) (c .good) .0; low = low; back = on; seen = λ bs q. so bs (c .seen bs q) }
   where
+    low : (y : Y) → g′ y → bytes (w′ y) ≡ true
+    low y q = let h = here y q in subst (λ (t : List ℕ). bytes t ≡ true) (h .1) (c .low (from y) (h .0))
+
     on : (y : Y) (rest : List ℕ) → g′ y → r (w′ y ++ rest) ≡ got (value′ y) rest
     on y rest q = let h = here y q in rw (← h .1, ← h .2) (c .back (from y) rest (h .0))
 

@@ -33,8 +33,15 @@ swapping = arm (then text (λ k. then perhaps (λ e. last text (λ v. swap k e v
 
 pub command : Codec same write-command Good-command read-command
 unfolding read-command all-below
-command = record { some = get []; good = (refl, refl); back = on; seen = so }
+command = record { some = get []; good = (refl, refl); low = low; back = on; seen = so }
   where
+    low : (x : Command) → Good-command x → bytes (write-command x) ≡ true
+    low (get k) q = named get .laws .low k q
+    low (put k v) q = paired put .laws .low (k, v) q
+    low (remove k) q = named remove .laws .low k q
+    low (swap k e v) q = swapping .laws .low (k, (e, v)) q
+    low (drop-if k v) q = paired drop-if .laws .low (k, v) q
+
     on : (x : Command) (rest : List ℕ) → Good-command x → read-command (write-command x ++ rest) ≡ got x rest
     on (get k) rest q = named get .laws .back k rest q
     on (put k v) rest q = paired put .laws .back (k, v) rest q
@@ -78,9 +85,15 @@ Good-entries (e ∷ es) = Good-entry e × Good-entries es
 
 -- so many entries
 pub entries : (n : ℕ) → Codec same write-entries (λ es. Good-entries es × (length es ≡ n)) (read-entries n)
-unfolding read-entries write-entries
+unfolding read-entries write-entries all-below
 entries zero =
-    record { some = []; good = (tt, refl); back = λ es rest q. rw (nil-from-length es (q .1)); seen = λ bs q. whole [] bs (tt, refl) refl }
+    record {
+      some = [];
+      good = (tt, refl);
+      low = λ es q. rw (nil-from-length es (q .1));
+      back = λ es rest q. rw (nil-from-length es (q .1));
+      seen = λ bs q. whole [] bs (tt, refl) refl;
+    }
 entries (suc n) =
     recode (then entry (λ e. last (entries n) (λ es. e ∷ es))) (λ x. x .0 ∷ x .1)
     (λ x g. (((g .0, g .1 .0), ap suc (g .1 .1)), refl)) from here

@@ -7,7 +7,7 @@ use native.Mathlib.Omega.{arith}
 use lib.ListN.{length}
 use Rattle.std.proofs.shelf.Ways.{tells}
 use Rattle.servers.specs.Server.{Message, ask-vote, vote, append, appended, Event, timeout, request, comes, restart, garbled}
-use Rattle.servers.specs.Promise.{bytes}
+use Rattle.servers.specs.Promise.{all-below, bytes}
 use Rattle.wire.specs.Read.{got, read-append, read-message, read-front}
 use Rattle.wire.specs.Write.{write-message, write-event}
 use Rattle.wire.proofs.Codecs.{Codec, Seen, Arm, arm, whole, same, then, last, counted, tag, no-tag, no-byte}
@@ -35,9 +35,15 @@ abbrev replying : Arm Message
 replying = arm (then number (λ t. then number (λ i. last bool (λ ok. appended t i ok))))
 
 pub message : Codec same write-message Good-message read-message
-unfolding read-message read-append
-message = record { some = vote 0 false; good = (refl, tt); back = on; seen = so }
+unfolding read-message read-append all-below
+message = record { some = vote 0 false; good = (refl, tt); low = low; back = on; seen = so }
   where
+    low : (m : Message) → Good-message m → bytes (write-message m) ≡ true
+    low (ask-vote t i u) q = asking .laws .low (t, (i, u)) q
+    low (vote t ok) q = voting .laws .low (t, ok) q
+    low (append t i u es c) q = appending .laws .low (t, (i, (u, (c, es)))) q
+    low (appended t i ok) q = replying .laws .low (t, (i, ok)) q
+
     on : (m : Message) (rest : List ℕ) → Good-message m → read-message (write-message m ++ rest) ≡ got m rest
     on (ask-vote t i u) rest q = asking .laws .back (t, (i, u)) rest q
     on (vote t ok) rest q = voting .laws .back (t, ok) rest q
@@ -66,9 +72,16 @@ abbrev coming : Arm Event
 coming = arm (then byte (λ h. last message (λ m. comes h m)))
 
 pub event : Codec same write-event Good-event read-front
-unfolding read-front
-event = record { some = timeout; good = tt; back = on; seen = so }
+unfolding read-front all-below
+event = record { some = timeout; good = tt; low = low; back = on; seen = so }
   where
+    low : (e : Event) → Good-event e → bytes (write-event e) ≡ true
+    low timeout q = refl
+    low (request c k x) q = requesting .laws .low (c, (k, x)) q
+    low (comes h m) q = coming .laws .low (h, m) q
+    low restart q = refl
+    low (garbled n) q = refl
+
     on : (e : Event) (rest : List ℕ) → Good-event e → read-front (write-event e ++ rest) ≡ got e rest
     on timeout rest q = refl
     on (request c k x) rest q = requesting .laws .back (c, (k, x)) rest q

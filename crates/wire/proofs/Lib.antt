@@ -6,6 +6,10 @@ pub mod Writable
 pub mod Trips
 pub mod Places
 pub mod Letters
-pub mod Laws
-pub mod Reading
-pub mod Passing
+pub mod Tests
+pub mod Lengths
+pub mod Stored
+pub mod Kept
+pub mod Steps
+pub mod Answering
+pub mod Sizes

@@ -13,16 +13,10 @@ use Rattle.std.proofs.shelf.Tests.{and-parts, and-from, cases-lt, lt-ltb, le-lt
 use Rattle.std.proofs.shelf.Ways.{tells}
 use Rattle.servers.specs.Store.{pick, Perhaps}
 use Rattle.servers.specs.Promise.{all-below, bytes, eight}
-use Rattle.wire.specs.Read.{Read, got, stuck, and-then, number-of, read-byte, read-number, read-bytes, read-text, read-bool, read-perhaps}
+use Rattle.wire.specs.Read.{Read, got, stuck, and-then, number-of, read-byte, read-number, read-bytes, read-text, read-bool}
+use Rattle.wire.specs.Read.{read-perhaps}
 use Rattle.wire.specs.Write.{bytes-of, write-number, write-text, write-bool, write-perhaps}
-use Rattle.wire.proofs.Codecs.{Codec, Seen, whole, short, same, last, recode, counted, tag, no-tag, no-byte}
-
-pub bytes-append : (a b : List ℕ) → bytes a ≡ true → bytes b ≡ true → bytes (a ++ b) ≡ true
-unfolding all-below
-bytes-append [] b p q = q
-bytes-append (x ∷ a) b p q =
-    let h = and-parts (ltb x 256) (bytes a) p in
-    and-from (ltb x 256) (bytes (a ++ b)) (h .0) (bytes-append a b (h .1) q)
+use Rattle.wire.proofs.Codecs.{bytes-append, Codec, Seen, whole, short, same, last, recode, counted, tag, no-tag, no-byte}
 
 pub bytes-first : (a b : List ℕ) → bytes (a ++ b) ≡ true → bytes a ≡ true
 unfolding all-below
@@ -48,6 +42,7 @@ fixed n f =
     record {
       some = replicate n 0;
       good = (bytes-zeros n, length-replicate n 0);
+      low = λ t q. q .0;
       back = λ t rest q.
           let l = length-append t rest in
           rw (le-ltb (length (t ++ rest)) n (omega arith), take-at t rest n (q .1), drop-at t rest n (q .1));
@@ -111,7 +106,7 @@ Text t = (bytes t ≡ true) × (eight (length t) ≡ true)
 
 pub byte : Codec same (λ x. x ∷ []) Byte read-byte
 unfolding all-below
-byte = record { some = 0; good = refl; back = λ x rest q. refl; seen = λ bs q. so bs q }
+byte = record { some = 0; good = refl; low = λ x q. and-from (ltb x 256) true q refl; back = λ x rest q. refl; seen = λ bs q. so bs q }
   where
     so : (bs : List ℕ) → bytes bs ≡ true → Seen (λ x. x ∷ []) Byte read-byte bs
     so [] q = short 0 (0 ∷ []) refl refl refl
@@ -132,9 +127,13 @@ unfolding read-text read-bytes
 text = counted number (λ n. fixed n same)
 
 pub bool : Codec same write-bool (λ b. Unit {0}) read-bool
-unfolding read-bool
-bool = record { some = false; good = tt; back = on; seen = so }
+unfolding read-bool all-below
+bool = record { some = false; good = tt; low = low; back = on; seen = so }
   where
+    low : (b : Bool) → Unit {0} → bytes (write-bool b) ≡ true
+    low false q = refl
+    low true q = refl
+
     on : (b : Bool) (rest : List ℕ) → Unit {0} → read-bool (write-bool b ++ rest) ≡ got b rest
     on false rest q = refl
     on true rest q = refl
@@ -151,11 +150,15 @@ Maybe-text [] = Unit {0}
 Maybe-text (t ∷ ts) = Text t × (ts ≡ [])
 
 pub perhaps : Codec same write-perhaps Maybe-text read-perhaps
-unfolding read-perhaps
-perhaps = record { some = []; good = tt; back = on; seen = so }
+unfolding read-perhaps all-below
+perhaps = record { some = []; good = tt; low = low; back = on; seen = so }
   where
     one : Codec (λ t. t ∷ []) write-text Text (λ bs. and-then (read-text bs) (λ t r. got (t ∷ []) r))
     one = last text (λ t. t ∷ [])
+
+    low : (x : Perhaps) → Maybe-text x → bytes (write-perhaps x) ≡ true
+    low [] q = refl
+    low (t ∷ ts) q = one .low t (q .0)
 
     on : (x : Perhaps) (rest : List ℕ) → Maybe-text x → read-perhaps (write-perhaps x ++ rest) ≡ got x rest
     on [] rest q = refl

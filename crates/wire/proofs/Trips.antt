@@ -4,10 +4,9 @@ use mathlib.Core.List.{[]}
 use lib.ListN.{length}
 use Rattle.std.proofs.shelf.Lists.{append-nil}
 use Rattle.servers.specs.Server.{Event}
-use Rattle.servers.specs.Promise.{bytes}
 use Rattle.wire.specs.Read.{got, read-front, read-event, whole}
 use Rattle.wire.specs.Write.{write-event}
-use Rattle.wire.specs.Codec.{Writable, Round-trip, Injective}
+use Rattle.wire.specs.Codec.{Writable, Round-trip, Injective, Written-is-bytes}
 use Rattle.wire.proofs.Events.{event}
 use Rattle.wire.proofs.Writable.{good-event}
 
@@ -19,3 +18,6 @@ round-trip e w = ap (whole (length (write-event e))) (front e w)
 
 pub injective : Injective
 injective e d w v q = sym (round-trip e w) ∙ ap read-event q ∙ round-trip d v
+
+pub written-is-bytes : Written-is-bytes
+written-is-bytes e w = event .low e (good-event e w)

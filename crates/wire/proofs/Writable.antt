@@ -10,7 +10,7 @@ use Rattle.std.proofs.shelf.Lists.{nil-from-length}
 use Rattle.std.proofs.shelf.Tests.{and-parts, and-from, leb-true, false≢true}
 use Rattle.servers.specs.Store.{Perhaps, Command, get, put, remove, swap, drop-if}
 use Rattle.servers.specs.Server.{Entry, Message, ask-vote, vote, append, appended, Event, timeout, request, comes, restart, garbled}
-use Rattle.servers.specs.Promise.{bytes-perhaps, fine, all-fine, fine-message, readable}
+use Rattle.servers.specs.Promise.{bytes-perhaps, fine, all-fine, fine-message}
 use Rattle.wire.specs.Codec.{sized-perhaps, sized-command, sized-entries, sized-message, Writable}
 use Rattle.wire.proofs.Numbers.{Maybe-text}
 use Rattle.wire.proofs.Commands.{Good-command, Good-entries}
@@ -21,7 +21,7 @@ unfolding bytes-perhaps
 good-perhaps [] b l s = tt
 good-perhaps (t ∷ ts) b l s = ((and-parts _ _ b .0, s), nil-from-length ts (omega (arith, leb-true (suc (length ts)) 1 l)))
 
-good-command : (x : Command) → fine x ≡ true → sized-command x ≡ true → Good-command x
+pub good-command : (x : Command) → fine x ≡ true → sized-command x ≡ true → Good-command x
 good-command (get k) f s = (f, s)
 good-command (put k v) f s = let p = and-parts _ _ f in let q = and-parts _ _ s in ((p .0, q .0), (p .1, q .1))
 good-command (remove k) f s = (f, s)
@@ -55,7 +55,7 @@ good-event (comes h m) w = let p = and-parts _ _ (w .0) in (p .0, good-message m
 good-event restart w = tt
 good-event (garbled n) w = false≢true (w .1)
 
-both : {a b : Bool} → a ≡ true → b ≡ true → (a && b) ≡ true
+pub both : {a b : Bool} → a ≡ true → b ≡ true → (a && b) ≡ true
 both {a} {b} p q = and-from a b p q
 
 fine-perhaps : (e : Perhaps) → Maybe-text e → (bytes-perhaps e ≡ true) × (leb (length e) 1 ≡ true) × (sized-perhaps e ≡ true)
@@ -82,7 +82,7 @@ fine-entries (e ∷ es) g =
       both (c .1) (r .1),
     )
 
-fine-all : (m : Message) → Good-message m → (fine-message m ≡ true) × (sized-message m ≡ true)
+pub fine-all : (m : Message) → Good-message m → (fine-message m ≡ true) × (sized-message m ≡ true)
 fine-all (ask-vote t i u) g = (both (g .0) (both (g .1 .0) (g .1 .1)), refl)
 fine-all (vote t ok) g = (g .0, refl)
 fine-all (append t i u es c) g =

@@ -1,16 +1,16 @@
 -- What is promised of the bytes of answers and of the letters in them. The contracts of src/promises.rt ask for the proofs.
-use mathlib.Core.Bool.{Bool, true, false, _&&_}
+use mathlib.Core.Bool.{Bool, true, _&&_}
 use mathlib.Core.List.{List, [], _∷_, _++_}
 use mathlib.Core.Path.{_≡_}
 use Prim.Native.Nat.{ℕ, _+_}
 use lib.Dec.{ltb, leb}
 use lib.ListN.{length, take, drop}
 use Rattle.servers.specs.Store.{Perhaps}
-use Rattle.servers.specs.Server.{Event, comes, Said, Letter, Answer, refused, not-leader, does}
-use Rattle.servers.specs.Promise.{eight, bytes-perhaps, fine-message}
+use Rattle.servers.specs.Server.{comes, Said, Letter, Answer, refused, not-leader, does}
+use Rattle.servers.specs.Promise.{eight, bytes, bytes-perhaps, fine-message}
 use Rattle.wire.specs.Codec.{sized-perhaps, sized-message, Writable}
 use Rattle.wire.specs.Write.{write-message, write-event, write-letter, write-answer}
-use Rattle.wire.specs.Read.{Read, got, number-of, read-event, read-answer}
+use Rattle.wire.specs.Read.{got, number-of, read-event, read-answer}
 
 -- answers whose numbers and lengths fit their bytes
 abbrev pub fine-perhaps : Perhaps → Bool
@@ -43,6 +43,10 @@ Answer-round-trip = (a : Answer) (rest : List ℕ) → fine-answer a ≡ true �
 -- so no two answers have the same bytes
 abbrev pub Answers-apart : Type 0
 Answers-apart = (a b : Answer) → fine-answer a ≡ true → fine-answer b ≡ true → write-answer a ≡ write-answer b → a ≡ b
+
+-- and what is written is bytes
+abbrev pub Answer-is-bytes : Type 0
+Answer-is-bytes = (a : Answer) → fine-answer a ≡ true → bytes (write-answer a) ≡ true
 
 -- a letter at the front of bytes, cut out by its length alone: the bytes of its message, and what stands after it
 abbrev pub message-length : List ℕ → ℕ

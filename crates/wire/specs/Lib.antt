@@ -2,5 +2,4 @@ pub mod Write
 pub mod Read
 pub mod Codec
 pub mod Answers
-pub mod Means
-pub mod Arms
+pub mod Sizes

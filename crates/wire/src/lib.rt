@@ -1,8 +1,2 @@
-// The bytes of events, messages and answers: read without copying, written in place.
-pub mod command;
-pub mod event;
-pub mod forward;
-pub mod message;
-pub mod parts;
+// The bytes of events, messages and answers: definitions and what is promised of them. The code is in wire_read and wire_write.
 pub mod promises;
-pub mod read;
