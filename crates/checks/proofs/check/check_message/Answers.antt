@@ -1,0 +1,13 @@
+use mathlib.Core.Path.{_≡_, _∙_}
+use Rattle.servers.specs.Opened.{limits-of}
+use Rattle.checks.specs.Refusals.{can-do}
+use Rattle.checks.proofs.Outcomes.{append-means}
+use Rattle.checks.proofs.check.check_message.Needs as need
+
+pub returns-in-Append : need.returns-in-Append
+returns-in-Append c =
+    let a = c .in-Append in
+    let h = rw (c .in-Append .is) at (c .pre) in
+    rw (c .in-Append .is)
+    (c .check-append .ensures
+    ∙ append-means (limits-of can-do (c .args .l)) (c .args .b .now) (a .term) (a .before) (a .before-term) (a .commit) (a .entries) h)
