@@ -47,11 +47,15 @@ brief-means bs (Swap k (Some e) v) h =
     rw (text-long bs k (h .0), text-long bs e (h .1), text-long bs v (h .2), and-true (leb (e .len) 256), and-true (leb (e .len) 256)) refl
 brief-means bs (DropIf k v) h = rw (text-long bs k (h .0), text-long bs v (h .1)) refl
 
-pub sound-means : (can : ℕ → Bool) (l : Limits) (bs : List ℕ) (e : Entry) → Entry-in bs e → good-entry (limits-of can l) (entry-of bs e) ≡ sound l e
+pub sound-means :
+    (can : ℕ → Bool) (l : Limits) (bs : List ℕ) (e : Entry) → Entry-in bs e →
+    good-entry (limits-of can l) (entry-of bs e) ≡ sound l e
 sound-means can l bs e h = rw (brief-means bs (e .command) h) refl
 
 -- the fields of one more
-pub good-more : (l : server.Limits) (e : server.Entry) (es : List server.Entry) → good-entries l (e ∷ es) ≡ (good-entry l e && good-entries l es)
+pub good-more :
+    (l : server.Limits) (e : server.Entry) (es : List server.Entry) →
+    good-entries l (e ∷ es) ≡ (good-entry l e && good-entries l es)
 unfolding clients-there all-short-entries terms-below
 good-more l e es =
     let a : Bool = ltb (e .client) (l .clients) && ltb (e .at) (l .servers) in
@@ -60,21 +64,32 @@ good-more l e es =
     ∙ interchange (a && short (e .command)) (clients-there l es && all-short-entries es) t (terms-below es)
 
 -- one more is in its ranges, or isn't, or none is left
-pub pass-more : (l : server.Limits) (i n : ℕ) (w : Bool) (e : server.Entry) (es : List server.Entry) → good-entry l e ≡ true → n ≡ suc (length es) → if-good (good-entries l (e ∷ es)) (w && in-a-row i (e ∷ es)) ≡ if-good (good-entries l es) ((w && eqb (e .index) (i + n)) && in-a-row i es)
+pub pass-more :
+    (l : server.Limits) (i n : ℕ) (w : Bool) (e : server.Entry) (es : List server.Entry) → good-entry l e ≡ true →
+    n ≡ suc (length es) →
+    if-good (good-entries l (e ∷ es)) (w && in-a-row i (e ∷ es)) ≡
+    if-good (good-entries l es) ((w && eqb (e .index) (i + n)) && in-a-row i es)
 unfolding in-a-row
 pass-more l i n w e es g q =
     let m : suc (i + length es) ≡ i + n = omega arith in
     rw (good-more l e es, g, m, and-assoc w (eqb (e .index) (i + n)) (in-a-row i es)) refl
 
-pub pass-refused : (l : server.Limits) (w : Bool) (e : server.Entry) (es : List server.Entry) → good-entry l e ≡ false → if-good (good-entries l (e ∷ es)) w ≡ None
+pub pass-refused :
+    (l : server.Limits) (w : Bool) (e : server.Entry) (es : List server.Entry) → good-entry l e ≡ false →
+    if-good (good-entries l (e ∷ es)) w ≡ None
 pass-refused l w e es g = rw (good-more l e es, g) refl
 
-pub pass-none : (l : server.Limits) (i : ℕ) (w : Bool) (es : List server.Entry) → es ≡ [] → if-good (good-entries l es) (w && in-a-row i es) ≡ Some w
+pub pass-none :
+    (l : server.Limits) (i : ℕ) (w : Bool) (es : List server.Entry) → es ≡ [] →
+    if-good (good-entries l es) (w && in-a-row i es) ≡ Some w
 unfolding in-a-row clients-there all-short-entries terms-below
 pass-none l i w es e = rw (e, and-true w) refl
 
 -- entries that are there are as many as they say
-read-first : (n : ℕ) (d : List ℕ) (x : Read server.Entry) → x ≡ read-entry d → is-got x ≡ true → is-got (read-entries (suc n) d) ≡ true → ((r : List ℕ) → is-got (read-entries n r) ≡ true → length (list-read (read-entries n r)) ≡ n) → length (list-read (read-entries (suc n) d)) ≡ suc n
+read-first :
+    (n : ℕ) (d : List ℕ) (x : Read server.Entry) → x ≡ read-entry d → is-got x ≡ true → is-got (read-entries (suc n) d) ≡ true →
+    ((r : List ℕ) → is-got (read-entries n r) ≡ true → length (list-read (read-entries n r)) ≡ n) →
+    length (list-read (read-entries (suc n) d)) ≡ suc n
 read-first n d (got e r) q g p f =
     let k : suc n - 1 ≡ n = omega arith in
     let m = rw k at (entries-more (suc n) d r e (omega arith) q p) in
@@ -103,14 +118,24 @@ none-good true v p = absurd (let y : _≡_ {A = ℕ} 0 1 = cc in omega arith)
 none-good false v p = refl
 
 -- a turn of the pass: the entry passed, or was refused
-pub turn-passed : (can : ℕ → Bool) (l : Limits) (bs : List ℕ) (i : ℕ) (w s : Bool) (es rest : Entries) (e f : Entry) → Entry-in bs e → Entries-in bs rest → entries-of bs es ≡ entry-of bs e ∷ entries-of bs rest → 0 < es .count → rest .count ≡ es .count - 1 → Some f ≡ if-good (sound l e) e → s ≡ eqb (f .index) (i + es .count) → if-good (good-entries (limits-of can l) (entries-of bs rest)) ((w && s) && in-a-row i (entries-of bs rest)) ≡ if-good (good-entries (limits-of can l) (entries-of bs es)) (w && in-a-row i (entries-of bs es))
+pub turn-passed :
+    (can : ℕ → Bool) (l : Limits) (bs : List ℕ) (i : ℕ) (w s : Bool) (es rest : Entries) (e f : Entry) → Entry-in bs e →
+    Entries-in bs rest → entries-of bs es ≡ entry-of bs e ∷ entries-of bs rest → 0 < es .count → rest .count ≡ es .count - 1 →
+    Some f ≡ if-good (sound l e) e → s ≡ eqb (f .index) (i + es .count) →
+    if-good (good-entries (limits-of can l) (entries-of bs rest)) ((w && s) && in-a-row i (entries-of bs rest)) ≡
+    if-good (good-entries (limits-of can l) (entries-of bs es)) (w && in-a-row i (entries-of bs es))
 turn-passed can l bs i w s es rest e f he hr v h k g q =
     let n = entries-long bs rest hr in
     let y = some-good (sound l e) e f g in
     let x = ap (λ (z : Entry). eqb (z .index) (i + es .count)) (y .1) in
-    let m = pass-more (limits-of can l) i (es .count) w (entry-of bs e) (entries-of bs rest) (sound-means can l bs e he ∙ y .0) (omega arith) in
+    let m =
+    pass-more (limits-of can l) i (es .count) w (entry-of bs e) (entries-of bs rest)
+    (sound-means can l bs e he ∙ y .0) (omega arith) in
     rw (v, q, x) (sym m)
 
-pub turn-refused : (can : ℕ → Bool) (l : Limits) (bs : List ℕ) (w : Bool) (es rest : Entries) (e : Entry) → Entry-in bs e → entries-of bs es ≡ entry-of bs e ∷ entries-of bs rest → None ≡ if-good (sound l e) e → if-good (good-entries (limits-of can l) (entries-of bs es)) w ≡ None
+pub turn-refused :
+    (can : ℕ → Bool) (l : Limits) (bs : List ℕ) (w : Bool) (es rest : Entries) (e : Entry) → Entry-in bs e →
+    entries-of bs es ≡ entry-of bs e ∷ entries-of bs rest → None ≡ if-good (sound l e) e →
+    if-good (good-entries (limits-of can l) (entries-of bs es)) w ≡ None
 turn-refused can l bs w es rest e he v g =
     rw v (pass-refused (limits-of can l) w (entry-of bs e) (entries-of bs rest) (sound-means can l bs e he ∙ none-good (sound l e) e g))

@@ -1,7 +1,7 @@
 -- What is asked of the code's parts by their numbers and lengths alone, whatever bytes they lie in. Assumes nothing: these are
 -- definitions.
 use mathlib.Core.Bool.{Bool, true, false, not, _&&_}
-use Prim.Native.Nat.{ℕ, _≤_}
+use Prim.Native.Nat.{ℕ, _<_, _≤_}
 use lib.Dec.{ltb, leb, eqb}
 use Rattle.std.specs.declared.option.Option.{Option}
 use Rattle.std.specs.declared.option.Option.the-variants.{Some, None}
@@ -43,3 +43,10 @@ Brief (Put k v) = (k .len ≤ 64) × (v .len ≤ 256)
 Brief (Remove k) = k .len ≤ 64
 Brief (Swap k e v) = (k .len ≤ 64) × Brief-perhaps e × (v .len ≤ 256)
 Brief (DropIf k v) = (k .len ≤ 64) × (v .len ≤ 256)
+
+-- and of an entry
+pub record Sound (l : Limits) (e : Entry) : Type 0 where
+  pub client-there : e .client < l .clients
+  pub server-there : e .at < l .servers
+  pub texts : Brief (e .command)
+  pub term-there : e .term ≤ last-of-all

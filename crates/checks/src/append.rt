@@ -1,14 +1,8 @@
 // The checks of an append: one pass over its entries, forward in the order of their bytes.
 ghost use mathlib.Core.Path.{_≡_};
-ghost use mathlib.Core.Bool.{_&&_};
-ghost use Prim.Native.Nat.{_+_};
-ghost use lib.Dec.{leb, eqb};
-ghost use Rattle.servers.specs.Opened.{limits-of};
-ghost use Rattle.servers.specs.Server.{in-a-row, last-of-all};
-ghost use Rattle.wire.specs.Means.{Entries-in, entries-of};
+ghost use Rattle.wire.specs.Means.{Entries-in};
 ghost use Rattle.checks.specs.Fields.{if-good};
-ghost use Rattle.checks.specs.Outcome.{ordered};
-ghost use Rattle.checks.specs.Refusals.{can-do, good-entries};
+ghost use Rattle.checks.specs.Steps.{append-checked, entries-checked, good-front, passes};
 use crate::entry::sound_entry;
 use crate::fields::has_room;
 use crate::fields::index_there;
@@ -24,7 +18,7 @@ use wire::parts::Message;
 // since a field of a later entry comes before it.
 fn pass(l: Limits, b: &[u8], before: u64, entries: Entries) -> Option<bool>
     requires { ⌜ Entries-in (now b) entries ⌝ }
-    ensures { λ r. ⌜ r ≡ if-good (good-entries (limits-of can-do l) (entries-of (now (b .entry)) entries)) (in-a-row before (entries-of (now (b .entry)) entries)) ⌝ }
+    ensures { λ r. ⌜ r ≡ passes l (now (b .entry)) before entries ⌝ }
 {
     let mut rest = entries;
     let mut row = true;
@@ -39,7 +33,7 @@ fn pass(l: Limits, b: &[u8], before: u64, entries: Entries) -> Option<bool>
 
 // The numbers before the entries: term, the index and term before, commit index.
 fn front(l: Limits, term: u64, before: u64, before_term: u64, commit: u64) -> Option<u64>
-    ensures { λ r. ⌜ r ≡ if-good ((leb term last-of-all && (leb before (l .room) && leb «before_term» last-of-all)) && leb commit (l .room)) before ⌝ }
+    ensures { λ r. ⌜ r ≡ if-good (good-front l term before «before_term» commit) before ⌝ }
 {
     term_there(term)?;
     let before = index_there(l, before)?;
@@ -51,7 +45,7 @@ fn front(l: Limits, term: u64, before: u64, before_term: u64, commit: u64) -> Op
 // The entries, after the numbers were found good.
 fn check_entries(l: Limits, b: &[u8], before: u64, entries: Entries) -> Result<Entries, Refusal>
     requires { ⌜ Entries-in (now b) entries ⌝ }
-    ensures { λ r. ⌜ r ≡ ordered (good-entries (limits-of can-do l) (entries-of (now (b .entry)) entries)) (in-a-row before (entries-of (now (b .entry)) entries) && leb (before + entries .count) (l .room)) entries ⌝ }
+    ensures { λ r. ⌜ r ≡ entries-checked l (now (b .entry)) before entries ⌝ }
 {
     let Some(row) = pass(l, b, before, entries) else {
         return Err(Refusal::OutOfRange);
@@ -66,9 +60,17 @@ fn check_entries(l: Limits, b: &[u8], before: u64, entries: Entries) -> Result<E
 }
 
 // Fields come before the row: all numbers and all entries are looked at before a break in the row, or too many entries, count.
-pub fn check_append(l: Limits, b: &[u8], term: u64, before: u64, before_term: u64, commit: u64, entries: Entries) -> Result<Message, Refusal>
+pub fn check_append(
+    l: Limits,
+    b: &[u8],
+    term: u64,
+    before: u64,
+    before_term: u64,
+    commit: u64,
+    entries: Entries,
+) -> Result<Message, Refusal>
     requires { ⌜ Entries-in (now b) entries ⌝ }
-    ensures { λ r. ⌜ r ≡ ordered (((leb term last-of-all && (leb before (l .room) && leb «before_term» last-of-all)) && leb commit (l .room)) && good-entries (limits-of can-do l) (entries-of (now (b .entry)) entries)) (in-a-row before (entries-of (now (b .entry)) entries) && leb (before + entries .count) (l .room)) (Message.Append term before «before_term» commit entries) ⌝ }
+    ensures { λ r. ⌜ r ≡ append-checked l (now (b .entry)) term before «before_term» commit entries ⌝ }
 {
     let Some(before) = front(l, term, before, before_term, commit) else {
         return Err(Refusal::OutOfRange);

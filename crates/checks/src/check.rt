@@ -1,13 +1,15 @@
 // THE CHECKS of an event, in the order of the refusals: what no state is needed for.
 ghost use mathlib.Core.Path.{_≡_};
 ghost use mathlib.Core.Bool.{true, not, _&&_};
+ghost use mathlib.Core.List.{[]};
 ghost use lib.Dec.{ltb, leb, eqb};
 ghost use Rattle.servers.specs.Opened.{limits-of};
-ghost use Rattle.servers.specs.Server.{ask-vote, appended, good-message, last-of-all};
-ghost use Rattle.wire.specs.Means.{Event-in, Message-in, message-of};
+ghost use Rattle.servers.specs.Server.{last-of-all};
+ghost use Rattle.wire.specs.Means.{Event-in, Message-in};
 ghost use Rattle.checks.specs.Fields.{brief, if-good};
 ghost use Rattle.checks.specs.Outcome.{Checked, decided, ordered};
-ghost use Rattle.checks.specs.Refusals.{can-do, in-row};
+ghost use Rattle.checks.specs.Refusals.{can-do};
+ghost use Rattle.checks.specs.Steps.{message-checked};
 use crate::append::check_append;
 use crate::entry::brief_command;
 use crate::fields::another;
@@ -23,7 +25,7 @@ use wire::parts::Event;
 use wire::parts::Message;
 
 fn check_ask(l: Limits, term: u64, index: u64, last_term: u64) -> Result<Message, Refusal>
-    ensures { λ r. ⌜ r ≡ ordered (good-message (limits-of can-do l) (ask-vote term index «last_term»)) true (Message.AskVote term index «last_term») ⌝ }
+    ensures { λ r. ⌜ r ≡ message-checked l [] (Message.AskVote term index «last_term») ⌝ }
 {
     let Some(term) = term_there(term) else {
         return Err(Refusal::OutOfRange);
@@ -47,7 +49,7 @@ fn check_vote(term: u64, granted: bool) -> Result<Message, Refusal>
 }
 
 fn check_appended(l: Limits, term: u64, index: u64, ok: bool) -> Result<Message, Refusal>
-    ensures { λ r. ⌜ r ≡ ordered (good-message (limits-of can-do l) (appended term index ok)) true (Message.Appended term index ok) ⌝ }
+    ensures { λ r. ⌜ r ≡ message-checked l [] (Message.Appended term index ok) ⌝ }
 {
     let Some(term) = term_there(term) else {
         return Err(Refusal::OutOfRange);
@@ -60,7 +62,7 @@ fn check_appended(l: Limits, term: u64, index: u64, ok: bool) -> Result<Message,
 
 fn check_message(l: Limits, b: &[u8], message: Message) -> Result<Message, Refusal>
     requires { ⌜ Message-in (now b) message ⌝ }
-    ensures { λ r. ⌜ r ≡ ordered (good-message (limits-of can-do l) (message-of (now (b .entry)) message)) (in-row (limits-of can-do l) (message-of (now (b .entry)) message)) message ⌝ }
+    ensures { λ r. ⌜ r ≡ message-checked l (now (b .entry)) message ⌝ }
 {
     match message {
         Message::AskVote(term, index, last_term) => check_ask(l, term, index, last_term),

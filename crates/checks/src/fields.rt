@@ -19,26 +19,42 @@ pub fn can_restart() -> bool
 pub fn client_there(l: Limits, client: u64) -> Option<u64>
     ensures { λ r. ⌜ r ≡ if-good (ltb client (l .clients)) client ⌝ }
 {
-    if client < l.clients { Some(client) } else { None }
+    if client < l.clients {
+        Some(client)
+    } else {
+        None
+    }
 }
 
 pub fn server_there(l: Limits, server: u8) -> Option<u8>
     ensures { λ r. ⌜ r ≡ if-good (ltb server (l .servers)) server ⌝ }
 {
-    if u64::from(server) < l.servers { Some(server) } else { None }
+    if u64::from(server) < l.servers {
+        Some(server)
+    } else {
+        None
+    }
 }
 
 // No message comes from the server itself.
 pub fn another(l: Limits, server: u8) -> Option<u8>
     ensures { λ r. ⌜ r ≡ if-good (not (eqb server (l .me))) server ⌝ }
 {
-    if u64::from(server) != l.me { Some(server) } else { None }
+    if u64::from(server) != l.me {
+        Some(server)
+    } else {
+        None
+    }
 }
 
 pub fn term_there(term: u64) -> Option<u64>
     ensures { λ r. ⌜ r ≡ if-good (leb term last-of-all) term ⌝ }
 {
-    if term <= Limits::LAST_TERM { Some(term) } else { None }
+    if term <= Limits::LAST_TERM {
+        Some(term)
+    } else {
+        None
+    }
 }
 
 pub fn index_there(l: Limits, index: u64) -> Option<u64>
@@ -50,13 +66,21 @@ pub fn index_there(l: Limits, index: u64) -> Option<u64>
 pub fn brief_name(name: Text) -> Option<Text>
     ensures { λ r. ⌜ r ≡ if-good (leb (name .len) 64) name ⌝ }
 {
-    if name.len <= Limits::LONGEST_NAME { Some(name) } else { None }
+    if name.len <= Limits::LONGEST_NAME {
+        Some(name)
+    } else {
+        None
+    }
 }
 
 pub fn brief_text(text: Text) -> Option<Text>
     ensures { λ r. ⌜ r ≡ if-good (leb (text .len) 256) text ⌝ }
 {
-    if text.len <= Limits::LONGEST_TEXT { Some(text) } else { None }
+    if text.len <= Limits::LONGEST_TEXT {
+        Some(text)
+    } else {
+        None
+    }
 }
 
 // Whether an entry stands at its place: so many after the index before, with no sum that could wrap.

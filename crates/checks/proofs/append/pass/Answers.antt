@@ -14,12 +14,13 @@ loop-rest-holds c = (c .pre, refl)
 pub loop-rest-again : need.loop-rest-again
 loop-rest-again c =
     let n = c .next-entry .ensures in
-    let next = c .next-entry .result in
-    (n .rest,
-    turn-passed can-do (c .args .l) (c .args .b .now) (c .args .before) (c .loop-rest .row) (c .stands-row .result) (c .loop-rest .rest)
-    (next .1) (next .0) (c .in-Continue-entry .entry) (n .entry) (n .rest) (n .value) (c .loop-rest-test .taken) (n .count)
-    (c .in-Continue-entry .ensures tt) (c .stands-row .ensures)
-    ∙ c .loop-rest .inv .1)
+    let next = c .next-entry .result in (
+      n .rest,
+      turn-passed can-do (c .args .l) (c .args .b .now) (c .args .before) (c .loop-rest .row) (c .stands-row .result) (c .loop-rest .rest)
+          (next .1) (next .0) (c .in-Continue-entry .entry) (n .entry) (n .rest) (n .value) (c .loop-rest-test .taken) (n .count)
+          (c .in-Continue-entry .ensures tt) (c .stands-row .ensures)
+          ∙ c .loop-rest .inv .1,
+    )
 
 pub returns-in-Break-entry : need.returns-in-Break-entry
 returns-in-Break-entry c =

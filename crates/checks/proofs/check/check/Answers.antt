@@ -23,5 +23,5 @@ pub returns-in-Comes : need.returns-in-Comes
 returns-in-Comes c =
     let h = rw (c .in-Comes .is) at (c .pre) in
     rw (c .in-Comes .is)
-    (checked-from (limits-of can-do (c .args .l)) (c .args .b .now) (Comes (c .in-Comes .from) (c .in-Comes .message)) (c .check-comes .result)
-    h (c .check-comes .ensures))
+    (checked-from (limits-of can-do (c .args .l)) (c .args .b .now) (Comes (c .in-Comes .from) (c .in-Comes .message))
+    (c .check-comes .result) h (c .check-comes .ensures))
