@@ -3,14 +3,12 @@ use native.Mathlib.Omega.{arith}
 use mathlib.Core.Path.{_≡_, refl, sym, _∙_, ap}
 use mathlib.Core.Bool.{Bool, true, false, _&&_, and-assoc, and-true}
 use mathlib.Core.List.{List, [], _∷_}
-use Prim.Native.Nat.{ℕ, zero, suc, _+_, _-_, _<_, _≤_}
+use Prim.Native.Nat.{ℕ, zero, suc, _+_, _-_, _<_}
 use lib.Dec.{ltb, leb, eqb}
-use lib.ListN.{length, drop, take}
+use lib.ListN.{length, drop}
 use Rattle.std.proofs.shelf.Lists.{length-take-le, length-drop}
-use Rattle.std.proofs.shelf.Tests.{both-ways, eq-eqb}
-use Rattle.std.specs.declared.option.Option.{Option}
+use Rattle.std.proofs.shelf.Tests.{both-ways}
 use Rattle.std.specs.declared.option.Option.the-variants.{Some, None}
-use Rattle.servers.specs.Store.{pick}
 use Rattle.servers.specs.Server as server
 use Rattle.servers.specs.Server.{short, all-short, clients-there, all-short-entries, terms-below, in-a-row, last-of-all}
 use Rattle.servers.specs.Opened.{limits-of}

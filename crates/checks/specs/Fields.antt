@@ -1,8 +1,8 @@
 -- What is asked of the code's parts by their numbers and lengths alone, whatever bytes they lie in. Assumes nothing: these are
 -- definitions.
-use mathlib.Core.Bool.{Bool, true, false, not, _&&_}
-use Prim.Native.Nat.{ℕ, _<_, _≤_}
-use lib.Dec.{ltb, leb, eqb}
+use mathlib.Core.Bool.{Bool, true, _&&_}
+use Prim.Native.Nat.{_<_, _≤_}
+use lib.Dec.{ltb, leb}
 use Rattle.std.specs.declared.option.Option.{Option}
 use Rattle.std.specs.declared.option.Option.the-variants.{Some, None}
 use Rattle.servers.specs.Store.{pick}

@@ -1,5 +1,5 @@
 -- What the parts of the checks decide, by the code's limits and the bytes. Assumes nothing: these are definitions.
-use mathlib.Core.Bool.{Bool, true, _&&_}
+use mathlib.Core.Bool.{Bool, _&&_}
 use mathlib.Core.List.{List}
 use Prim.Native.Nat.{ℕ, _+_}
 use lib.Dec.{leb}

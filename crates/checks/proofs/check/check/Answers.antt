@@ -1,5 +1,5 @@
-use mathlib.Core.Path.{_≡_, refl, sym, _∙_, ap}
-use mathlib.Core.Bool.{Bool, true, _&&_}
+use mathlib.Core.Path.{sym, _∙_, ap}
+use mathlib.Core.Bool.{true, _&&_}
 use lib.Dec.{ltb}
 use Rattle.servers.specs.Opened.{limits-of}
 use Rattle.wire_read.specs.declared.parts.Event.the-variants.{Request, Comes}
