@@ -24,6 +24,7 @@ pub mod VoteRequest
 pub mod LeaderLog
 pub mod VoteReply
 pub mod ClientRequest
+pub mod AppendedLog
 pub mod AppendRequest
 pub mod AppendReply
 pub mod Commit
