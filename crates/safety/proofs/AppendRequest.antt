@@ -22,6 +22,7 @@ use Rattle.safety.proofs.Letters.{in-left, in-either, from-by, all-one, old-or
 use Rattle.safety.proofs.Logs.{agree-below, entry-within}
 use Rattle.safety.proofs.Ghost.{Election, Ack, replied, led, Acked, Committed-prefix, Inherits, Own-step}
 use Rattle.safety.proofs.Invariant.{Server-invariant, Valid-append, Letter-invariant, view, horizon}
+use Rattle.safety.proofs.Prefixes.{committed-alike}
 use Rattle.safety.proofs.LogMatching.{agrees-within, inherited-in-log}
 use Rattle.safety.proofs.LeaderCompleteness.{committed-in-log}
 use Rattle.safety.proofs.Growth.{prefix-stays}
@@ -110,15 +111,7 @@ module _ {k me : ℕ} {was : Before} {s : State} {sent : List Sent} (a : Turn k 
         let far = entry-within (p .index) its (p .committed .entry) (p .committed .there) in
         let same = after .append-keeps-agreement d (p .same ∙ sym e) ∙ e in
         let low = p .far in
-        record {
-          index = p .index;
-          in-term = p .in-term;
-          committed = p .committed;
-          far = p .far;
-          low = p .low;
-          same = same;
-          inside = agrees-within (a .ghost) d (p .in-term) l (omega arith) same;
-        }
+        committed-alike p l (same ∙ sym (p .same)) (agrees-within (a .ghost) d (p .in-term) l (omega arith) same)
 
     -- the server afterwards, with commit index d
     mine : (d : ℕ) → (0 < d → Committed-prefix k (a .γ) sent d (s .term) l)

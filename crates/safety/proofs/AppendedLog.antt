@@ -14,10 +14,11 @@ use lib.ListN.{length}
 use Rattle.servers.specs.Server.{Entry, State, last-index, last-term, up-to, entry-at, empty, term-is, has-new, in-a-row}
 use Rattle.servers.specs.World.{Sent}
 use Rattle.std.proofs.shelf.Tests.{cases-lt, and-parts, false≢true, true≢false, both-ways, and-cases, not-true, not-false}
-use Rattle.safety.proofs.Logs.{up-to-up-to, agree-below, agree-entry, agree-at-zero, up-to-zero, entry-of-term, term-of-entry}
-use Rattle.safety.proofs.Logs.{entry-on-top, last-up-to-below, last-of-row}
+use Rattle.safety.proofs.Logs.{up-to-up-to, agree-entry, agree-at-zero, up-to-zero, entry-of-term, term-of-entry, entry-on-top}
+use Rattle.safety.proofs.Logs.{last-up-to-below, last-of-row}
 use Rattle.safety.proofs.Ghost.{Ghost, Committed-prefix}
 use Rattle.safety.proofs.Invariant.{Valid-log, Ghost-invariant, Valid-append}
+use Rattle.safety.proofs.Prefixes.{committed-part, committed-alike}
 use Rattle.safety.proofs.LogMatching.{logs-match, valid-prefix}
 
 -- WHAT A VALID LETTER SAYS OF THE LEADER'S LOG
@@ -136,16 +137,6 @@ module _ {k : ℕ} {γ : Ghost} {sent : List Sent} (g : Ghost-invariant k γ sen
     pub told-committed : {h i u c : ℕ} → Valid-append k γ sent h t i u es c → (d : ℕ) → 0 < d → d ≤ c → d ≤ last-index log
         → Committed-prefix k γ sent d t log
     told-committed {h} {i} {u} {c} letter d pos low inside =
-        let p = letter .commit (omega arith) in
+        let p = committed-part (letter .commit (omega arith)) d low in
         let top : last-index log ≤ m = rw (whole some) (last-up-to-below m leaders) in
-        let far = p .far in
-        record {
-          index = p .index;
-          in-term = p .in-term;
-          committed = p .committed;
-          far = omega arith;
-          low = p .low;
-          same = rw (whole some) (up-to-up-to d m leaders (omega arith))
-              ∙ agree-below d c leaders (γ .leader-log (p .in-term)) low (p .same);
-          inside = inside;
-        }
+        committed-alike p log (rw (whole some) (up-to-up-to d m leaders (omega arith))) inside

@@ -10,6 +10,7 @@ use Rattle.servers.specs.World.{Sent}
 use Rattle.safety.proofs.Logs.{agree-entry, entry-within, prefix-within}
 use Rattle.safety.proofs.Quorums.{quorum-map}
 use Rattle.safety.proofs.Ghost.{Election, Ghost, Voted-for, Ack, replied, led, Acked, Committed, Committed-prefix, Inherits, Extends}
+use Rattle.safety.proofs.Prefixes.{committed-alike}
 use Rattle.safety.proofs.Invariant.{From-leader, Valid-log, Valid-election, Leader, Valid-append, Message-invariant}
 
 -- history has grown, or not
@@ -134,16 +135,7 @@ module _ {γ : Ghost} {sent : List Sent} {δ : Ghost} {more : List Sent} (grows 
       commit p =
           let l = grows .longer t in
           let inside = p .inside in
-          let n = prefix-stays p in
-          record {
-            index = n .index;
-            in-term = n .in-term;
-            committed = n .committed;
-            far = n .far;
-            low = n .low;
-            same = grows .leader-logs t c inside ∙ n .same;
-            inside = omega arith;
-          }
+          committed-alike (prefix-stays p) (δ .leader-log t) (grows .leader-logs t c inside) (omega arith)
 
   pub message-stays : (k h d : ℕ) (m : Message) → Message-invariant k γ sent h d m → Message-invariant k δ more h d m
   message-stays k h d (ask-vote t j u) o = (o .0, grows .ballots h t _ (o .1), o .2, o .3)

@@ -19,7 +19,8 @@ use Rattle.safety.proofs.Ghost.{just, Election, Ghost, Committed-prefix}
 use Rattle.safety.proofs.Invariant.{Valid-log}
 use Rattle.safety.proofs.LogMatching.{logs-match, start-in-log, agrees-within}
 use Rattle.safety.proofs.LeaderCompleteness.{leader-complete, committed-in-log}
-use Rattle.safety.proofs.Commits.{committed-later, commits-agree}
+use Rattle.safety.proofs.Prefixes.{committed-later}
+use Rattle.safety.proofs.Commits.{commits-agree}
 use Rattle.safety.proofs.Growth.{valid-log-stays, prefix-stays}
 use Rattle.safety.proofs.Induction.{earlier-world}
 use Rattle.safety.proofs.Monotone.{rises-since}
