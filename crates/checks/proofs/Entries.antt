@@ -16,13 +16,13 @@ use Rattle.servers.specs.Server.{short, all-short, clients-there, all-short-ent
 use Rattle.servers.specs.Opened.{limits-of}
 use Rattle.servers.specs.declared.limits.Limits.{Limits}
 use Rattle.wire.specs.Read.{Read, got, stuck, read-entry, read-entries}
-use Rattle.wire.specs.Means.{text-of, command-of, entry-of, entries-of, list-read, is-got, Text-in, Command-in, Entry-in, Entries-in}
-use Rattle.wire.specs.declared.parts.Text.{Text}
-use Rattle.wire.specs.declared.parts.Command.{Command}
-use Rattle.wire.specs.declared.parts.Command.the-variants.{Get, Put, Remove, Swap, DropIf}
-use Rattle.wire.specs.declared.parts.Entry.{Entry}
-use Rattle.wire.specs.declared.parts.Entries.{Entries}
-use Rattle.wire.proofs.Passing.{first-there, rest-there, entries-more}
+use Rattle.wire_read.specs.Means.{text-of, command-of, entry-of, entries-of, list-read, is-got, Text-in, Command-in, Entry-in, Entries-in}
+use Rattle.wire_read.specs.declared.parts.Text.{Text}
+use Rattle.wire_read.specs.declared.parts.Command.{Command}
+use Rattle.wire_read.specs.declared.parts.Command.the-variants.{Get, Put, Remove, Swap, DropIf}
+use Rattle.wire_read.specs.declared.parts.Entry.{Entry}
+use Rattle.wire_read.specs.declared.parts.Entries.{Entries}
+use Rattle.wire_read.proofs.Passing.{first-there, rest-there, entries-more}
 use Rattle.checks.specs.Fields.{if-good, brief, sound}
 use Rattle.checks.specs.Refusals.{good-entry, good-entries}
 

@@ -14,10 +14,10 @@ use Rattle.servers.specs.Server as server
 use Rattle.servers.specs.Server.{in-a-row, last-of-all, turned, after, answer, place, stepped, doing, State}
 use Rattle.servers.specs.Opened.{limits-of}
 use Rattle.servers.specs.declared.limits.Limits.{Limits}
-use Rattle.wire.specs.Means.{means, entry-of, entries-of, Entry-in, Entries-in}
-use Rattle.wire.specs.declared.parts.Entry.{Entry}
-use Rattle.wire.specs.declared.parts.Entries.{Entries}
-use Rattle.wire.specs.declared.parts.Event.{Event}
+use Rattle.wire_read.specs.Means.{means, entry-of, entries-of, Entry-in, Entries-in}
+use Rattle.wire_read.specs.declared.parts.Entry.{Entry}
+use Rattle.wire_read.specs.declared.parts.Entries.{Entries}
+use Rattle.wire_read.specs.declared.parts.Event.{Event}
 use Rattle.checks.specs.Fields.{sound, Sound}
 use Rattle.checks.specs.Outcome.{Checked, Passed-append, refusal-number, refusal-place}
 use Rattle.checks.specs.Refusals.{by-fields, by-state, good-entry, good-entries}

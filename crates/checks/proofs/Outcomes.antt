@@ -16,14 +16,14 @@ use Rattle.servers.specs.Server as server
 use Rattle.servers.specs.Server.{place, good-message, in-a-row, last-of-all, clients-there, all-short-entries, terms-below, out-of-row}
 use Rattle.servers.specs.Opened.{limits-of}
 use Rattle.servers.specs.declared.limits.Limits.{Limits}
-use Rattle.wire.specs.Means.{means, message-of, command-of, entries-of, Command-in, Message-in, Entries-in, Event-in}
-use Rattle.wire.specs.declared.parts.Command.{Command}
-use Rattle.wire.specs.declared.parts.Command.the-variants.{Get, Put, Remove, Swap, DropIf}
-use Rattle.wire.specs.declared.parts.Entries.{Entries}
-use Rattle.wire.specs.declared.parts.Event.{Event}
-use Rattle.wire.specs.declared.parts.Event.the-variants.{Timeout, Request, Comes, Restart, Garbled}
-use Rattle.wire.specs.declared.parts.Message.{Message}
-use Rattle.wire.specs.declared.parts.Message.the-variants.{AskVote, Vote, Append, Appended}
+use Rattle.wire_read.specs.Means.{means, message-of, command-of, entries-of, Command-in, Message-in, Entries-in, Event-in}
+use Rattle.wire_read.specs.declared.parts.Command.{Command}
+use Rattle.wire_read.specs.declared.parts.Command.the-variants.{Get, Put, Remove, Swap, DropIf}
+use Rattle.wire_read.specs.declared.parts.Entries.{Entries}
+use Rattle.wire_read.specs.declared.parts.Event.{Event}
+use Rattle.wire_read.specs.declared.parts.Event.the-variants.{Timeout, Request, Comes, Restart, Garbled}
+use Rattle.wire_read.specs.declared.parts.Message.{Message}
+use Rattle.wire_read.specs.declared.parts.Message.the-variants.{AskVote, Vote, Append, Appended}
 use Rattle.checks.specs.Fields.{brief, Brief}
 use Rattle.checks.specs.Outcome.{ordered, outcome, decided, Passed-append, Passed-message, Passed, Handed, Checked}
 use Rattle.checks.specs.Refusals.{can-do, in-range, in-row, by-fields, by-itself, good-entries}

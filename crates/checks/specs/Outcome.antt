@@ -12,11 +12,11 @@ use Rattle.std.specs.declared.result.Result.the-variants.{Ok, Err}
 use Rattle.servers.specs.Store.{pick}
 use Rattle.servers.specs.Server as server
 use Rattle.servers.specs.Server.{place, in-a-row, last-of-all}
-use Rattle.wire.specs.Means.{means, entries-of, message-of}
-use Rattle.wire.specs.declared.parts.Event.{Event}
-use Rattle.wire.specs.declared.parts.Event.the-variants.{Timeout, Request, Comes, Restart, Garbled}
-use Rattle.wire.specs.declared.parts.Message.{Message}
-use Rattle.wire.specs.declared.parts.Message.the-variants.{AskVote, Vote, Append, Appended}
+use Rattle.wire_read.specs.Means.{means, entries-of, message-of}
+use Rattle.wire_read.specs.declared.parts.Event.{Event}
+use Rattle.wire_read.specs.declared.parts.Event.the-variants.{Timeout, Request, Comes, Restart, Garbled}
+use Rattle.wire_read.specs.declared.parts.Message.{Message}
+use Rattle.wire_read.specs.declared.parts.Message.the-variants.{AskVote, Vote, Append, Appended}
 use Rattle.checks.specs.Refusals.{by-fields, good-entries, in-range, in-row}
 use Rattle.checks.specs.Fields.{Brief}
 use Rattle.checks.specs.declared.refusal.Refusal.{Refusal}

@@ -8,10 +8,10 @@ use Rattle.std.specs.declared.result.Result.{Result}
 use Rattle.servers.specs.Server.{good-message, in-a-row, last-of-all}
 use Rattle.servers.specs.Opened.{limits-of}
 use Rattle.servers.specs.declared.limits.Limits.{Limits}
-use Rattle.wire.specs.Means.{entries-of, message-of}
-use Rattle.wire.specs.declared.parts.Entries.{Entries}
-use Rattle.wire.specs.declared.parts.Message.{Message}
-use Rattle.wire.specs.declared.parts.Message.the-variants.{Append}
+use Rattle.wire_read.specs.Means.{entries-of, message-of}
+use Rattle.wire_read.specs.declared.parts.Entries.{Entries}
+use Rattle.wire_read.specs.declared.parts.Message.{Message}
+use Rattle.wire_read.specs.declared.parts.Message.the-variants.{Append}
 use Rattle.checks.specs.Fields.{if-good}
 use Rattle.checks.specs.Outcome.{ordered}
 use Rattle.checks.specs.Refusals.{can-do, good-entries, in-row}
