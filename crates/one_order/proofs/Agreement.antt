@@ -1,4 +1,4 @@
--- What this proof takes from the safety of the logs, and all that it takes: logs are contiguous, and what was ever committed at
+-- AGREEMENT: what this proof takes from the safety of the logs, and all that it takes: logs are contiguous, and what was ever committed at
 -- one server is what was ever committed at any. No other file here reads the invariant of safety.
 use mathlib.Core.Path.{_≡_, refl}
 use mathlib.Core.List.{List, []}

@@ -1,4 +1,4 @@
--- What is committed in a world is one log: every server's log, up to its commit index, is the old end of it, and later worlds
+-- WHAT IS COMMITTED in a world is one log: every server's log, up to its commit index, is the old end of it, and later worlds
 -- only have entries on top. So the linearization order, which is read off it, only grows.
 use mathlib.Core.Path.{_≡_, sym, ap, subst, _∙_}
 use mathlib.Core.Logic.{inl, inr}
