@@ -1,0 +1,10 @@
+pub mod Tests
+pub mod Places
+pub mod Rows
+pub mod Regions
+pub mod Found
+pub mod Written
+pub mod Puts
+pub mod Commands
+pub mod Entries
+pub mod Sizes

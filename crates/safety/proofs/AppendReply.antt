@@ -28,7 +28,7 @@ module _ {k me : ℕ} {was : Before} {s : State} {sent : List Sent} (a : Turn k 
     known two =
         pick-by (Believes h) (ltb (nth 0 (s .matches) h) i) i (nth 0 (s .matches) h)
         (λ e p. replied me x)
-        (λ e p. a .mine .leader two .matches h p)
+        (λ e p. a .mine .leader two .acked h p)
 
     matched : (n : ℕ) → Turn k me was (with-match h m n s) sent
     matched n =
@@ -38,14 +38,13 @@ module _ {k me : ℕ} {was : Before} {s : State} {sent : List Sent} (a : Turn k 
           votes-size = o .votes-size;
           matches-size = length-set-at (s .matches) h m ∙ o .matches-size;
           ballots = o .ballots;
-          candidate = λ q. (let c = o .candidate q in
-              record { own = c .own; earlier = c .earlier; not-elected = c .not-elected; votes = c .votes });
+          candidate = o .candidate;
           leader = λ q. (let w = o .leader q in record {
             election = w .election;
             elected = w .elected;
             itself = w .itself;
             all = w .all;
-            matches = nth-set-by Believes 0 (s .matches) h m (known q) (w .matches);
+            acked = nth-set-by Believes 0 (s .matches) h m (known q) (w .acked);
           });
           acks = o .acks;
           keeps = o .keeps;

@@ -79,8 +79,8 @@ module _ {k : ℕ} {γ : Ghost} {sent : List Sent} (g : Ghost-invariant k γ sen
       ap (λ z. (e ∷ es) ++ z) same ∙ (v .entries some ∙ ap (λ z. up-to z (γ .leader-log t)) (sym (last-of-row i e es row)))
 
 -- THE LETTER IS TAKEN, in the server's own term; `log` is the log that the entries make
-abbrev accepts : ℕ → ℕ → ℕ → Bool → List Letter
-accepts h t n ok = record { to = h; message = appended t n ok } ∷ []
+abbrev reply : ℕ → ℕ → ℕ → Bool → List Letter
+reply h t n ok = record { to = h; message = appended t n ok } ∷ []
 
 some-entries : (xs : List Entry) → not (empty xs) ≡ true → 0 < length xs
 some-entries [] q = absurd (false≢true q)
@@ -101,7 +101,7 @@ module _ {k me : ℕ} {was : Before} {s : State} {sent : List Sent} (a : Turn k 
   leaders = a .γ .leader-log (s .term)
 
   abbrev ls : List Letter
-  ls = accepts h (s .term) m true
+  ls = reply h (s .term) m true
 
   abbrev more : List Sent
   more = sent ++ from me ls
@@ -298,43 +298,46 @@ module _ {k me : ℕ} {was : Before} {s : State} {sent : List Sent} (a : Turn k 
     result z = pick (has-new s es) (following h (with-log log (at-least (s .commit) (at-most c (last-index log))) z)) (following h z)
 
     accepted : (0 < length es → log ≡ up-to (last-index es) (a .γ .leader-log t)) → ltb t (s .term) ≡ false
-        → Turn k me was (after-append s h t es c log) (sent ++ from me (accepts h t (last-index es) true))
+        → Turn k me was (after-append s h t es c log) (sent ++ from me (reply h t (last-index es) true))
     accepted whole e =
-        bool-by (λ b. Turn k me was (result (pick b (with-term t s) s)) (sent ++ from me (accepts h t (last-index es) true)))
+        bool-by (λ b. Turn k me was (result (pick b (with-term t s) s)) (sent ++ from me (reply h t (last-index es) true)))
         (ltb (s .term) t)
         (λ f. let b = change a (with-term t s) (later-term s t (grind (arith, tells)) (a .mine)) in
         takes b h i u es c log letter (fits es letter row) whole)
         (λ f. let same : t ≡ s .term = grind (arith, tells) in
-        subst (λ y. Turn k me was (result s) (sent ++ from me (accepts h y (last-index es) true))) (sym same)
+        subst (λ y. Turn k me was (result s) (sent ++ from me (reply h y (last-index es) true))) (sym same)
         (takes a h i u es c log (subst (λ y. Valid-append k (a .γ) sent h y i u es c) same letter)
         (subst (λ y. Fits (a .γ) y es) same (fits es letter row))
         (λ p. whole p ∙ ap (λ y. up-to (last-index es) (a .γ .leader-log y)) same)))
 
-  refused : Turn k me was s (sent ++ from me (accepts h (s .term) (last-index es) false))
+  refused : Turn k me was s (sent ++ from me (reply h (s .term) (last-index es) false))
   refused =
-      say a (accepts h (s .term) (last-index es) false) (all-one me _ (λ x. Silent (x .letter .message)) tt)
+      say a (reply h (s .term) (last-index es) false) (all-one me _ (λ x. Silent (x .letter .message)) tt)
       (all-one me _ (λ x. Letter-invariant k (a .γ) sent x) tt)
 
-  abbrev ok : Message
-  ok = appended t (last-index es) true
+  abbrev acceptance : Message
+  acceptance = appended t (last-index es) true
 
-  abbrev no′ : Message
-  no′ = appended (s .term) (last-index es) false
+  abbrev refusal : Message
+  refusal = appended (s .term) (last-index es) false
 
   pub append-request-keeps : Turn k me was (appends s h t i u es c) (sent ++ from me (back s h (append t i u es c)))
   append-request-keeps =
       bool-by (λ old. Turn k me was (pick old s (pick (eqb i 0) (after-append s h t es c es)
       (pick (term-is (entry-at i (s .log)) u) (after-append s h t es c (es ++ up-to i (s .log))) s)))
-      (sent ++ from me (record { to = h; message = pick old no′ (pick (eqb i 0 || term-is (entry-at i (s .log)) u) ok no′) } ∷ [])))
+      (sent ++ from me (record {
+        to = h;
+        message = pick old refusal (pick (eqb i 0 || term-is (entry-at i (s .log)) u) acceptance refusal);
+      } ∷ [])))
       (ltb t (s .term))
       (λ e. refused)
       (λ e. bool-by (λ first. Turn k me was (pick first (after-append s h t es c es)
       (pick (term-is (entry-at i (s .log)) u) (after-append s h t es c (es ++ up-to i (s .log))) s))
-      (sent ++ from me (record { to = h; message = pick (first || term-is (entry-at i (s .log)) u) ok no′ } ∷ [])))
+      (sent ++ from me (record { to = h; message = pick (first || term-is (entry-at i (s .log)) u) acceptance refusal } ∷ [])))
       (eqb i 0)
       (λ f. accepted es (from-start (a .ghost) es letter row (grind (arith, tells))) e)
       (λ f. bool-by (λ there. Turn k me was (pick there (after-append s h t es c (es ++ up-to i (s .log))) s)
-      (sent ++ from me (record { to = h; message = pick there ok no′ } ∷ [])))
+      (sent ++ from me (record { to = h; message = pick there acceptance refusal } ∷ [])))
       (term-is (entry-at i (s .log)) u)
       (λ q. accepted (es ++ up-to i (s .log)) (from-match (a .ghost) es letter row (grind (arith, tells)) (a .mine .log) q) e)
       (λ q. refused)))

@@ -51,7 +51,7 @@ module _ (l : Limits) {was : Before} {s : State} {sent : List Sent} (a : Turn (l
         entries = λ n e q. elim (entry-cons n entry e (s .log) q) [ inl f ↦ inl (ap (λ (y : Entry). y .term) (sym f)) | inr f ↦ inr f ];
         matches = nth-set-by Believes 0 (s .matches) me (suc (last-index (s .log)))
             (λ p. inr (refl, omega arith))
-            (λ y p. inl (w .matches y p));
+            (λ y p. inl (w .acked y p));
         matches-size = length-set-at (s .matches) me (suc (last-index (s .log))) ∙ a .mine .matches-size;
       }
 

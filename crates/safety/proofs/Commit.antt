@@ -14,7 +14,7 @@ use Rattle.std.proofs.shelf.Tests.{and-parts}
 use Rattle.std.proofs.shelf.Ways.{tells}
 use Rattle.safety.proofs.Tests.{bool-by, pick-by}
 use Rattle.safety.proofs.Logs.{Contiguous, entry-last, entry-deeper, entry-within}
-use Rattle.safety.proofs.Quorums.{quorum-of-matches}
+use Rattle.safety.proofs.Quorums.{Most, quorum-of-matches}
 use Rattle.safety.proofs.Ghost.{Acked, Committed-prefix}
 use Rattle.safety.proofs.Turn.{Before, Turn, change}
 
@@ -23,7 +23,7 @@ record Commits-to (l : Limits) (s : State) (n : ℕ) : Type 0 where
   entry : Entry
   there : entry-at n (s .log) ≡ entry ∷ []
   of-term : entry .term ≡ s .term
-  most : l .servers / 2 < have-it n (s .matches)
+  most : Most (l .servers) (have-it n (s .matches))
   some : 0 < n
 
 -- it stays, or moves there; `es` is the part of the log that is still to be looked at
@@ -59,7 +59,7 @@ module _ (l : Limits) {was : Before} {s : State} {sent : List Sent} (a : Turn (l
           there = rw (w .all) (c .there);
           of-term = c .of-term;
           quorum = quorum-of-matches (λ v. Acked (a .γ) sent v (s .term) n) n (s .matches) (a .mine .matches-size) (c .most)
-              (λ v h. let some = c .some in record { upto = nth 0 (s .matches) v; far = h; ack = w .matches v (omega arith) });
+              (λ v h. let some = c .some in record { upto = nth 0 (s .matches) v; far = h; ack = w .acked v (omega arith) });
         };
         far = omega arith;
         low = omega arith;
@@ -76,9 +76,8 @@ module _ (l : Limits) {was : Before} {s : State} {sent : List Sent} (a : Turn (l
         votes-size = o .votes-size;
         matches-size = o .matches-size;
         ballots = o .ballots;
-        candidate = λ q. absurd (let two : s .kind ≡ 2 = grind (arith, tells) in omega arith);
-        leader = λ q. (let w = o .leader q in
-            record { election = w .election; elected = w .elected; itself = w .itself; all = w .all; matches = w .matches });
+        candidate = o .candidate;
+        leader = o .leader;
         acks = o .acks;
         keeps = o .keeps;
         commit = commit (grind (arith, tells)) (stays-or-moves l s (s .log) (o .log .contiguous) (λ n x h. h));

@@ -11,7 +11,7 @@ use Rattle.std.proofs.shelf.Tests.{cases-eq}
 use Rattle.safety.proofs.Ghost.{nothing, just, Ballot, Election, Ghost, Ack, replied, led, Acked, Own-step}
 use Rattle.safety.proofs.Invariant.{Valid-log, Valid-ballot, Valid-election, Ghost-invariant, View, Candidate, Leader, Server-invariant}
 use Rattle.safety.proofs.Invariant.{Letter-invariant}
-use Rattle.safety.proofs.Growth.{valid-log-stays, ack-stays, prefix-stays, voted-stays, election-stays, inherits-before}
+use Rattle.safety.proofs.Growth.{valid-log-stays, leader-stays, prefix-stays, voted-stays, election-stays, inherits-before}
 
 -- what a step still owes of the changed ghost: that what is new in it is valid
 pub record Owed (k i : ℕ) (γ δ : Ghost) (more : List Sent) : Type 0 where
@@ -55,7 +55,7 @@ module _ {i b : ℕ} {γ : Ghost} {sent : List Sent} {δ : Ghost} {more : List S
           matches-size = o .matches-size;
           ballots = λ t x q. o .ballots t x (old-ballot t x (step .ballots-new v t x q));
           candidate = λ e. candidate (o .candidate e);
-          leader = λ e. leader (o .leader e);
+          leader = λ e. leader-stays (step .extends) (same-log (o .leader e)) (o .leader e);
           acks = λ t n a. o .acks t n (ack-before ne a);
           keeps = λ t n a inherits.
               let old = acked-before ne a in
@@ -69,30 +69,20 @@ module _ {i b : ℕ} {γ : Ghost} {sent : List Sent} {δ : Ghost} {more : List S
         old-ballot t x (inl q) = q
         old-ballot t x (inr e) = absurd (ne e)
 
-        candidate : Candidate γ v s → Candidate δ v s
+        candidate : Candidate γ v (s .term) (s .log) (s .votes) → Candidate δ v (s .term) (s .log) (s .votes)
         candidate c =
             record {
               own = step .extends .ballots v (s .term) _ (c .own);
               earlier = c .earlier;
               not-elected = λ r q e.
                   elim (step .elections-new (s .term) r q) [ inl old ↦ c .not-elected r (old .0) e | inr own ↦ ne (sym e ∙ own) ];
-              votes = λ x h. voted-stays (step .extends) (c .votes x h);
+              votes-cast = λ x h. voted-stays (step .extends) (c .votes-cast x h);
             }
 
-        same-log : (l : Leader γ sent v s) → δ .leader-log (s .term) ≡ γ .leader-log (s .term)
-        same-log l =
-            elim (step .elections-new (s .term) (l .election) (step .extends .elections (s .term) (l .election) (l .elected)))
-            [ inl old ↦ old .1 | inr own ↦ absurd (ne (sym (l .itself) ∙ own)) ]
-
-        leader : Leader γ sent v s → Leader δ more v s
-        leader l =
-            record {
-              election = l .election;
-              elected = step .extends .elections (s .term) (l .election) (l .elected);
-              itself = l .itself;
-              all = same-log l ∙ l .all;
-              matches = λ x h. ack-stays (step .extends) (l .matches x h);
-            }
+        same-log : Leader γ sent v (s .term) (s .log) (s .matches) → δ .leader-log (s .term) ≡ γ .leader-log (s .term)
+        same-log w =
+            elim (step .elections-new (s .term) (w .election) (step .extends .elections (s .term) (w .election) (w .elected)))
+            [ inl old ↦ old .1 | inr own ↦ absurd (ne (sym (w .itself) ∙ own)) ]
 
     -- a ballot of the server itself too, since it acknowledges nothing of an earlier term than its own
     ballot-stays : ((t : ℕ) (x : Ballot) → γ .ballot i t ≡ just x → t ≤ b) → {v t : ℕ} {x : Ballot}

@@ -10,7 +10,7 @@ use Rattle.servers.specs.World.{Sent}
 use Rattle.safety.proofs.Logs.{agree-entry, entry-within, prefix-within}
 use Rattle.safety.proofs.Quorums.{quorum-map}
 use Rattle.safety.proofs.Ghost.{Election, Ghost, Voted-for, Ack, replied, led, Acked, Committed, Committed-prefix, Inherits, Extends}
-use Rattle.safety.proofs.Invariant.{From-leader, Valid-log, Valid-election, Valid-append, Message-invariant}
+use Rattle.safety.proofs.Invariant.{From-leader, Valid-log, Valid-election, Leader, Valid-append, Message-invariant}
 
 pub extends-refl : (γ : Ghost) (sent : List Sent) → Extends γ sent γ sent
 extends-refl γ sent =
@@ -94,6 +94,18 @@ module _ {γ : Ghost} {sent : List Sent} {δ : Ghost} {more : List Sent} (grows 
         votes = quorum-map (Voted-for γ t (r .leader)) (Voted-for δ t (r .leader)) (λ x b. voted-stays b) (v .votes);
         own = grows .ballots (r .leader) t _ (v .own);
         start = grows .leader-logs t (last-index (r .log)) (prefix-within (r .log) (γ .leader-log t) (v .start)) ∙ v .start;
+      }
+
+  -- a leader leads on, if it is not its own log that has grown
+  pub leader-stays : {v t : ℕ} {l : List Entry} {ms : List ℕ} → δ .leader-log t ≡ γ .leader-log t → Leader γ sent v t l ms
+      → Leader δ more v t l ms
+  leader-stays {v} {t} same w =
+      record {
+        election = w .election;
+        elected = grows .elections t (w .election) (w .elected);
+        itself = w .itself;
+        all = same ∙ w .all;
+        acked = λ x h. ack-stays (w .acked x h);
       }
 
   -- what is assumed of elections is assumed of fewer, before

@@ -102,27 +102,27 @@ view s =
 abbrev pub horizon : View → ℕ
 horizon s = pick (empty (s .leader)) (s .term) (suc (s .term))
 
--- of a server that wants to lead
-pub record Candidate (γ : Ghost) (v : ℕ) (s : View) : Type 0 where
+-- of a server v that wants to lead term t, with log l and the votes that it counts
+pub record Candidate (γ : Ghost) (v t : ℕ) (l : List Entry) (votes : List Bool) : Type 0 where
   -- it voted for itself, with the log that it has (CandidatesVoteForSelves)
-  pub own : γ .ballot v (s .term) ≡ just (record { candidate = v; log = s .log })
+  pub own : γ .ballot v t ≡ just (record { candidate = v; log = l })
   -- its term is above its log's (CandidateTermGtLog, CurrentTermGtZero)
-  pub earlier : last-term (s .log) < s .term
+  pub earlier : last-term l < t
   -- it was not elected in its term yet
-  pub not-elected : (r : Election) → γ .elected (s .term) ≡ just r → r .leader ≡ v → ⊥
+  pub not-elected : (r : Election) → γ .elected t ≡ just r → r .leader ≡ v → ⊥
   -- the votes that it counts were cast for it (VotesCorrect, CroniesCorrect)
-  pub votes : (x : ℕ) → nth false (s .votes) x ≡ true → Voted-for γ (s .term) v x
+  pub votes-cast : (x : ℕ) → nth false votes x ≡ true → Voted-for γ t v x
 
--- of a server that leads
-pub record Leader (γ : Ghost) (sent : List Sent) (v : ℕ) (s : View) : Type 0 where
+-- of a server v that leads term t, with log l and what it believes that the others have
+pub record Leader (γ : Ghost) (sent : List Sent) (v t : ℕ) (l : List Entry) (matches : List ℕ) : Type 0 where
   -- it is the one elected in its term (LeadersHaveLeaderLogs; with OneLeaderLogPerTerm: OneLeaderPerTerm)
   pub election : Election
-  pub elected : γ .elected (s .term) ≡ just election
+  pub elected : γ .elected t ≡ just election
   pub itself : election .leader ≡ v
   -- its log is the leader's log of its term
-  pub all : γ .leader-log (s .term) ≡ s .log
+  pub all : γ .leader-log t ≡ l
   -- what it believes of others they acknowledged (MatchIndexAllEntries, MatchIndexLeader, MatchIndexSanity)
-  pub matches : (x : ℕ) → 0 < nth 0 (s .matches) x → Ack γ sent x (s .term) (nth 0 (s .matches) x)
+  pub acked : (x : ℕ) → 0 < nth 0 matches x → Ack γ sent x t (nth 0 matches x)
 
 -- of server v in state s
 pub record Server-invariant (k : ℕ) (γ : Ghost) (sent : List Sent) (v : ℕ) (s : View) : Type 0 where
@@ -133,8 +133,8 @@ pub record Server-invariant (k : ℕ) (γ : Ghost) (sent : List Sent) (v : ℕ) 
   pub matches-size : length (s .matches) ≡ k
   -- it voted in no later term, and in its own as `voted` says (VotesLeCurrentTerm, VotedForTermSanity, CroniesTerm)
   pub ballots : (t : ℕ) (b : Ballot) → γ .ballot v t ≡ just b → (t ≤ s .term) × (t ≡ s .term → s .voted ≡ b .candidate ∷ [])
-  pub candidate : s .kind ≡ 1 → Candidate γ v s
-  pub leader : s .kind ≡ 2 → Leader γ sent v s
+  pub candidate : s .kind ≡ 1 → Candidate γ v (s .term) (s .log) (s .votes)
+  pub leader : s .kind ≡ 2 → Leader γ sent v (s .term) (s .log) (s .matches)
   -- it acknowledged no later term (AppendEntriesReply terms; and who was elected in term t is in no earlier term)
   pub acks : (t n : ℕ) → Ack γ sent v t n → t ≤ s .term
   -- what it acknowledged is in its log, if all elections since that may have changed it inherited it (AllEntriesLog)

@@ -178,7 +178,7 @@ module _ {k me : ℕ} {was : Before} {s : State} {sent : List Sent} (a : Turn k 
         matches-size = c .matches-size;
         ballots = a .mine .ballots;
         candidate = λ e. absurd (omega arith);
-        leader = λ e. record { election = r; elected = here; itself = c .itself; all = all; matches = λ x h. matches x (c .matches x h) };
+        leader = λ e. record { election = r; elected = here; itself = c .itself; all = all; acked = λ x h. acked x (c .matches x h) };
         acks = λ t n z. elim (cases-eq t (s .term)) [ inl e ↦ omega arith | inr ne ↦ a .mine .acks t n (ack-elsewhere ne z) ];
         keeps = by-term (λ t. (n : ℕ) → Acked δ sent me t n → ((x : ℕ) → t < x → x < horizon (view s) → Inherits δ n t x)
             → up-to n l ≡ up-to n (δ .leader-log t))
@@ -187,10 +187,10 @@ module _ {k me : ℕ} {was : Before} {s : State} {sent : List Sent} (a : Turn k 
         commit = λ h. commit (prefix-stays (own-step .extends) (a .mine .commit h));
       }
     where
-      matches : (x : ℕ) → Ack (a .γ) sent x (s .term) (nth 0 ms x) ⊎ ((x ≡ me) × (nth 0 ms x ≤ last-index l))
+      acked : (x : ℕ) → Ack (a .γ) sent x (s .term) (nth 0 ms x) ⊎ ((x ≡ me) × (nth 0 ms x ≤ last-index l))
           → Ack δ sent x (s .term) (nth 0 ms x)
-      matches x (inl old) = ack-stays (own-step .extends) old
-      matches x (inr (e, h)) = led r here (c .itself ∙ sym e) (rw all h)
+      acked x (inl old) = ack-stays (own-step .extends) old
+      acked x (inr (e, h)) = led r here (c .itself ∙ sym e) (rw all h)
 
       keeps : (t : ℕ) → (t ≡ s .term → ⊥) → (n : ℕ) → Acked δ sent me t n → ((x : ℕ) → t < x → x < horizon (view s) → Inherits δ n t x)
           → up-to n l ≡ up-to n (δ .leader-log t)

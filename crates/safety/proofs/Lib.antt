@@ -34,6 +34,7 @@ pub mod Unseen
 pub mod Induction
 pub mod Event
 pub mod Worlds
+pub mod Monotone
 -- the statements
 pub mod OverTime
 pub mod Promises

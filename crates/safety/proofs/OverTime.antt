@@ -1,6 +1,6 @@
 -- RAFT'S SAFETY PROPERTIES over time. What held at a moment is carried to the world's ghost, which has grown since (Growth), and there
 -- the lemmas on one world apply (LogMatching, LeaderCompleteness, Commits).
-use mathlib.Core.Path.{_≡_, sym, ap, subst, _∙_}
+use mathlib.Core.Path.{_≡_, refl, sym, ap, subst, _∙_}
 use mathlib.Core.Logic.{inl, inr}
 use mathlib.Core.Bool.{Bool, true}
 use mathlib.Core.List.{List, [], _∷_}
@@ -13,7 +13,7 @@ use Rattle.servers.specs.Promise.{Good-group, Right, readable-world, at-server,
 use Rattle.std.proofs.shelf.Tests.{false≢true}
 use Rattle.std.proofs.shelf.Ways.{tells}
 use Rattle.safety.specs.Safety.{Until, at-moment, Of-moments-in-order, Election-safety, Leader-append-only, Log-matching}
-use Rattle.safety.specs.Safety.{Leader-completeness, Later-leader-completeness, State-machine-safety}
+use Rattle.safety.specs.Safety.{Leader-completeness, Later-leader-completeness, State-machine-safety, Commits-stay, One-vote}
 use Rattle.safety.proofs.Logs.{At-most-one, entry-at-most-one, entry-within, up-to-all, agree-below, agree-at-zero}
 use Rattle.safety.proofs.Ghost.{just, Election, Ghost, Committed-prefix}
 use Rattle.safety.proofs.Invariant.{Valid-log}
@@ -22,6 +22,7 @@ use Rattle.safety.proofs.LeaderCompleteness.{leader-complete, committed-in-log
 use Rattle.safety.proofs.Commits.{committed-later, commits-agree}
 use Rattle.safety.proofs.Growth.{valid-log-stays, prefix-stays}
 use Rattle.safety.proofs.Induction.{earlier-world}
+use Rattle.safety.proofs.Monotone.{rises-since}
 use Rattle.safety.proofs.Worlds.{Held-at, history}
 
 -- AT ONE MOMENT, by the ghost of the world
@@ -171,3 +172,28 @@ appends-since can f g w right group lived fine m um i p q e =
 pub leader-append-only : Leader-append-only
 unfolding Leader-append-only
 leader-append-only = in-order Appends appends-since
+
+abbrev Stays : (ℕ → State) → (ℕ → State) → Type 0
+Stays a b =
+    (i : ℕ) → (a i .term ≤ b i .term) × (a i .commit ≤ b i .commit) × (up-to (a i .commit) (b i .log) ≡ up-to (a i .commit) (a i .log))
+
+stays-since : Since Stays
+unfolding State-machine-safety
+stays-since can f g w right group lived fine m um i =
+    let up = rises-since f g lived fine m um i in (
+      up .0,
+      up .1,
+      sym (state-machine-safety can f g w right group lived fine m (w .past) um ([], refl) i i (at-moment g m i .commit)
+          (omega arith) (up .1)),
+    )
+
+pub commits-stay : Commits-stay
+unfolding Commits-stay
+commits-stay = in-order Stays stays-since
+
+abbrev Votes-once : (ℕ → State) → (ℕ → State) → Type 0
+Votes-once a b = (i c : ℕ) → a i .term ≡ b i .term → a i .voted ≡ c ∷ [] → b i .voted ≡ c ∷ []
+
+pub one-vote : One-vote
+unfolding One-vote
+one-vote = in-order Votes-once (λ can f g w right group lived fine m um i c e had. rises-since f g lived fine m um i .2 e c had)

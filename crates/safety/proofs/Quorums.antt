@@ -10,11 +10,15 @@ use lib.ListN.{length}
 use Rattle.servers.specs.Server.{nth, count, have-it}
 use Rattle.std.proofs.shelf.Ways.{tells}
 
+-- c of n servers are a quorum
+abbrev pub Most : ℕ → ℕ → Type 0
+Most n c = n / 2 < c
+
 -- P holds of each server of some quorum of n
 pub record Quorum (n : ℕ) (P : ℕ → Type 0) : Type 0 where
   pub members : List Bool  -- for each server, whether it is among them
   pub size : length members ≡ n
-  pub most : n / 2 < count members
+  pub most : Most n (count members)
   pub each : (v : ℕ) → nth false members v ≡ true → P v
 
 -- what holds of each member may be weakened
@@ -50,7 +54,7 @@ quorums-meet P Q a b =
     (m .0, a .each (m .0) (m .1), b .each (m .0) (m .2))
 
 -- votes: the marks are the members
-pub quorum-of-votes : {n : ℕ} (P : ℕ → Type 0) (votes : List Bool) → length votes ≡ n → n / 2 < count votes
+pub quorum-of-votes : {n : ℕ} (P : ℕ → Type 0) (votes : List Bool) → length votes ≡ n → Most n (count votes)
     → ((v : ℕ) → nth false votes v ≡ true → P v) → Quorum n P
 quorum-of-votes P votes size most each = record { members = votes; size = size; most = most; each = each }
 
@@ -75,7 +79,7 @@ reached-at i [] v h = let z : _≡_ {A = ℕ} 0 1 = cc in omega arith
 reached-at i (m ∷ ms) zero h = grind (arith, tells)
 reached-at i (m ∷ ms) (suc v) h = reached-at i ms v h
 
-pub quorum-of-matches : {n : ℕ} (P : ℕ → Type 0) (i : ℕ) (matches : List ℕ) → length matches ≡ n → n / 2 < have-it i matches
+pub quorum-of-matches : {n : ℕ} (P : ℕ → Type 0) (i : ℕ) (matches : List ℕ) → length matches ≡ n → Most n (have-it i matches)
     → ((v : ℕ) → i ≤ nth 0 matches v → P v) → Quorum n P
 quorum-of-matches P i matches size most each =
     record {

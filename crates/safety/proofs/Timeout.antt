@@ -78,13 +78,13 @@ module _ (l : Limits) {was : Before} {s : State} {sent : List Sent} (a : Turn (l
       (λ e. (own, cast-here (a .γ) me next own, refl))
       (nth-many-by (λ x b. b ≡ true → Voted-for δ next me x) (l .servers) false (λ x e. absurd (false≢true e)))
 
-  candidate : Candidate δ me (view (wants l s))
+  candidate : Candidate δ me next (s .log) (set-at (many (l .servers) false) me true)
   candidate =
       record {
         own = cast-here (a .γ) me next own;
         earlier = earlier;
         not-elected = λ r q e. let h = a .mine .acks next 0 (led r q e (omega arith)) in omega arith;
-        votes = votes;
+        votes-cast = votes;
       }
 
   mine : Server-invariant (l .servers) δ more me (view (wants l s))

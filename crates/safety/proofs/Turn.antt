@@ -17,7 +17,7 @@ use Rattle.safety.proofs.Ghost.{Maybe, just, Ballot, Ghost, Ack, replied, led,
 use Rattle.safety.proofs.Invariant.{Ghost-invariant, Server-invariant, Letter-invariant, view, horizon}
 use Rattle.safety.proofs.LogMatching.{valid-later}
 use Rattle.safety.proofs.Commits.{committed-later}
-use Rattle.safety.proofs.Growth.{extends-trans, ack-stays, prefix-stays, message-stays}
+use Rattle.safety.proofs.Growth.{extends-trans, leader-stays, prefix-stays, message-stays}
 use Rattle.safety.proofs.Frame.{Owed, Letters-valid, others-stay, ghost-stays}
 
 -- how it was before the event
@@ -128,14 +128,7 @@ module _ {k me : ℕ} {was : Before} {s : State} {sent : List Sent} (a : Turn k 
         matches-size = o .matches-size;
         ballots = o .ballots;
         candidate = o .candidate;
-        leader = λ e. let l = o .leader e in
-            record {
-              election = l .election;
-              elected = l .elected;
-              itself = l .itself;
-              all = l .all;
-              matches = λ x h. ack-stays (own-step .extends) (l .matches x h);
-            };
+        leader = λ e. leader-stays (own-step .extends) refl (o .leader e);
         acks = λ t n h. o .acks t n (ack-silent me ls silent (a .γ .ballot) h);
         keeps = λ t n h inherits. o .keeps t n (acked-silent me ls silent (a .γ .ballot) h) inherits;
         commit = λ h. prefix-stays (own-step .extends) (o .commit h);

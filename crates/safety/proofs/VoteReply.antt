@@ -5,7 +5,7 @@ use mathlib.Core.Path.{_≡_, refl, sym, ap, subst, _∙_}
 use mathlib.Core.Logic.{_⊎_, inr}
 use mathlib.Core.Bool.{Bool, true, false}
 use mathlib.Core.List.{List, []}
-use Prim.Native.Nat.{ℕ, _/_, _≤_, _<_}
+use Prim.Native.Nat.{ℕ, _≤_, _<_}
 use native.Mathlib.Omega.{arith}
 use lib.Dec.{ltb, eqb}
 use lib.ListN.{length}
@@ -16,17 +16,17 @@ use Rattle.std.proofs.shelf.Ways.{tells}
 use Rattle.safety.proofs.Tests.{bool-by, pick-by}
 use Rattle.safety.proofs.Tables.{length-many, length-set-at, nth-set-by, nth-many-by}
 use Rattle.safety.proofs.Logs.{up-to-all, agree-at-zero}
-use Rattle.safety.proofs.Quorums.{Quorum, quorums-meet, quorum-of-votes}
+use Rattle.safety.proofs.Quorums.{Most, Quorum, quorums-meet, quorum-of-votes}
 use Rattle.safety.proofs.Ghost.{nothing, just, is-nothing, Ballot, Election, Voted-for, Ack}
 use Rattle.safety.proofs.Invariant.{Candidate, Server-invariant, Message-invariant, view}
 use Rattle.safety.proofs.Turn.{Before, Turn, change, advance}
 use Rattle.safety.proofs.LeaderLog.{Leads-with, leads}
 
 -- a candidate that has a quorum of votes
-module _ {k me : ℕ} {was : Before} {s : State} {sent : List Sent} (a : Turn k me was s sent) (c : Candidate (a .γ) me (view s))
-    (most : k / 2 < count (s .votes)) where
+module _ {k me : ℕ} {was : Before} {s : State} {sent : List Sent} (a : Turn k me was s sent)
+    (c : Candidate (a .γ) me (s .term) (s .log) (s .votes)) (most : Most k (count (s .votes))) where
   its-quorum : Quorum k (Voted-for (a .γ) (s .term) me)
-  its-quorum = quorum-of-votes (Voted-for (a .γ) (s .term) me) (s .votes) (a .mine .votes-size) most (c .votes)
+  its-quorum = quorum-of-votes (Voted-for (a .γ) (s .term) me) (s .votes) (a .mine .votes-size) most (c .votes-cast)
 
   nobody-elected : a .γ .elected (s .term) ≡ nothing
   nobody-elected = is-nothing _ (λ r q.
@@ -112,7 +112,7 @@ module _ (l : Limits) {was : Before} {s : State} {sent : List Sent} (a : Turn (l
         matches-size = length-set-at (many (l .servers) 0) (l .me) (last-index (s .log)) ∙ length-many (l .servers) 0;
         ballots = o .ballots;
         candidate = λ e. let c = o .candidate e in
-            record { own = c .own; earlier = c .earlier; not-elected = c .not-elected; votes = votes };
+            record { own = c .own; earlier = c .earlier; not-elected = c .not-elected; votes-cast = votes };
         leader = λ e. absurd (omega arith);
         acks = o .acks;
         keeps = o .keeps;
@@ -122,12 +122,12 @@ module _ (l : Limits) {was : Before} {s : State} {sent : List Sent} (a : Turn (l
   -- by a candidate, in its term
   polls : (ok : Bool) → Message-invariant (l .servers) (a .γ) sent h (l .me) (vote (s .term) ok) → s .kind ≡ 1
       → Turn (l .servers) (l .me) was (voted-on l h ok s) sent
-  polls false o one = change a (voted-on l h false s) (counted one (s .votes) (a .mine .votes-size) (a .mine .candidate one .votes))
+  polls false o one = change a (voted-on l h false s) (counted one (s .votes) (a .mine .votes-size) (a .mine .candidate one .votes-cast))
   polls true o one =
       let vs : List Bool = set-at (s .votes) h true in
       let size : length vs ≡ l .servers = length-set-at (s .votes) h true ∙ a .mine .votes-size in
       let votes = nth-set-by (λ x b. b ≡ true → Voted-for (a .γ) (s .term) (l .me) x) false (s .votes) h true
-      (λ e. o) (a .mine .candidate one .votes) in
+      (λ e. o) (a .mine .candidate one .votes-cast) in
       let b = change a (polled l vs (s .kind) s) (counted one vs size votes) in
       bool-by (λ z. Turn (l .servers) (l .me) was (polled l vs (pick z 2 (s .kind)) s) sent) (won l vs)
       (λ e. wins b (b .mine .candidate one) (grind (arith, tells)) _ refl)

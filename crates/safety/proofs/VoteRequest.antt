@@ -18,7 +18,7 @@ use Rattle.safety.proofs.Tests.{bool-by}
 use Rattle.safety.proofs.Letters.{all-one}
 use Rattle.safety.proofs.Ghost.{Maybe, nothing, just, Ballot, Ghost, Up-to-date}
 use Rattle.safety.proofs.Invariant.{Valid-log, Valid-ballot, Server-invariant, Letter-invariant, View, view, horizon}
-use Rattle.safety.proofs.Growth.{valid-log-stays, ack-stays, prefix-stays}
+use Rattle.safety.proofs.Growth.{valid-log-stays, leader-stays, prefix-stays}
 use Rattle.safety.proofs.Turn.{Before, Turn, change, say, later-term, with-ballots, Silent, All-silent, ack-silent, acked-silent}
 use Rattle.safety.proofs.Voting.{one-more, cast-here, cast-before, cast-either, cast-step, cast}
 
@@ -113,14 +113,7 @@ module _ {k me : ℕ} {was : Before} {s : State} {sent : List Sent} (a : Turn k 
           matches-size = o .matches-size;
           ballots = λ t b q. its-ballot t b (cast-either (a .γ) me (s .term) x me t b q);
           candidate = λ e. absurd (not-yet (o .candidate e .own));
-          leader = λ e. let l = o .leader e in
-              record {
-                election = l .election;
-                elected = l .elected;
-                itself = l .itself;
-                all = l .all;
-                matches = λ y p. ack-stays (cast-step a (s .term) x granted silent fresh .extends) (l .matches y p);
-              };
+          leader = λ e. leader-stays (cast-step a (s .term) x granted silent fresh .extends) refl (o .leader e);
           acks = λ t n p. o .acks t n (ack-silent me granted silent ballots p);
           keeps = λ t n p inherits. o .keeps t n (acked-silent me granted silent ballots p) inherits;
           commit = λ p. prefix-stays (cast-step a (s .term) x granted silent fresh .extends) (o .commit p);

@@ -2,7 +2,7 @@
 -- once. Each is a statement, a type whose proof is owed. Assumes nothing.
 use mathlib.Core.Path.{_≡_}
 use mathlib.Core.Bool.{Bool, true}
-use mathlib.Core.List.{List, [], _++_}
+use mathlib.Core.List.{List, [], _∷_, _++_}
 use Prim.Native.Nat.{ℕ, _≤_, _<_}
 use Rattle.servers.specs.Server.{State, state, last-index, up-to, entry-at}
 use Rattle.servers.specs.World.{Program, Group, limits, Happening, World, Lived, seen}
@@ -32,6 +32,10 @@ Of-moments-in-order p =
 unfoldable pub Election-safety : Type 0
 Election-safety = Of-moments (λ a b. (i j : ℕ) → a i .kind ≡ 2 → b j .kind ≡ 2 → a i .term ≡ b j .term → i ≡ j)
 
+-- ONE VOTE IN A TERM: whom a server voted for in a term it has voted for as long as it is in that term, restarts or not
+unfoldable pub One-vote : Type 0
+One-vote = Of-moments-in-order (λ a b. (i c : ℕ) → a i .term ≡ b i .term → a i .voted ≡ c ∷ [] → b i .voted ≡ c ∷ [])
+
 -- LEADER APPEND-ONLY: while a server leads a term it only adds to its log
 unfoldable pub Leader-append-only : Type 0
 Leader-append-only =
@@ -60,3 +64,9 @@ Later-leader-completeness =
 unfoldable pub State-machine-safety : Type 0
 State-machine-safety =
     Of-moments (λ a b. (i j n : ℕ) → n ≤ a i .commit → n ≤ b j .commit → up-to n (a i .log) ≡ up-to n (b j .log))
+
+-- NOTHING IS TAKEN BACK: a server's term and commit index never fall, and what it has committed stays in its log
+unfoldable pub Commits-stay : Type 0
+Commits-stay =
+    Of-moments-in-order (λ a b. (i : ℕ) → (a i .term ≤ b i .term) × (a i .commit ≤ b i .commit)
+    × (up-to (a i .commit) (b i .log) ≡ up-to (a i .commit) (a i .log)))

@@ -1,12 +1,13 @@
 // Safety: what holds of any group of servers that answer as the definitions say. Each function stands for the statements in its contract.
 ghost use Rattle.servers.specs.Promise.{One-leads, Logs-match, Settled-is-same, Who-leads-has-it, In-a-row, Turned-away};
-ghost use Rattle.safety.specs.Safety.{Election-safety, Leader-append-only, Log-matching, State-machine-safety};
+ghost use Rattle.safety.specs.Safety.{Election-safety, Leader-append-only, Log-matching, State-machine-safety, Commits-stay, One-vote};
 ghost use Rattle.safety.specs.Safety.{Leader-completeness, Later-leader-completeness};
 
-// Of one term at most one server leads: at any one moment, and over all time.
+// Of one term at most one server leads, at any one moment and over all time; and in a term a server votes for at most one.
 pub fn one_leads() -> u8
     ensures now { λ _. ⌜ One-leads ⌝ }
     ensures ever { λ _. ⌜ Election-safety ⌝ }
+    ensures votes { λ _. ⌜ One-vote ⌝ }
 {
     0
 }
@@ -35,6 +36,7 @@ pub fn leader_is_complete() -> u8
 pub fn commits_agree() -> u8
     ensures now { λ _. ⌜ Settled-is-same ⌝ }
     ensures ever { λ _. ⌜ State-machine-safety ⌝ }
+    ensures stay { λ _. ⌜ Commits-stay ⌝ }
 {
     0
 }

@@ -1,4 +1,4 @@
--- What is promised. Each is a statement, a type whose proof is owed. Assumes nothing.
+-- What is promised, as statements: types, whose proofs the contracts of other crates ask for. Assumes nothing.
 use mathlib.Core.Path.{_≡_}
 use mathlib.Core.Logic.{_⊎_, _≢_}
 use mathlib.Core.Bool.{Bool, true, false, not, _&&_, _||_}
@@ -7,8 +7,12 @@ use Prim.Native.Nat.{ℕ, zero, suc, _+_, _*_, _-_, _/_, _%_, _≤_, _<_}
 use lib.Dec.{ltb, leb, eqb}
 use lib.ListN.{length, getD}
 use Rattle.servers.specs.Store.{pick, Perhaps, Command, get, put, remove, swap, drop-if, Reply, Store}
-use Rattle.servers.specs.Server.{Entry, Message, ask-vote, vote, append, appended, Event, timeout, request, comes, restart, garbled, Said, Letter, Answer, Limits, State, state, turned, answer, after, entry-at, up-to, last-index, short, in-a-row}
-use Rattle.servers.specs.World.{Program, Group, limits, Happening, World, Lived, seen, memory, Asked, was-asked, was-told, before, Told, Happened, One-command, store-after, reply-in, there, each-once, earlier}
+use Rattle.servers.specs.Server.{Entry, Message, ask-vote, vote, append, appended, Event, timeout, request, comes}
+use Rattle.servers.specs.Server.{restart, garbled, Said, Letter, Answer, Limits, State, state, turned, answer, after}
+use Rattle.servers.specs.Server.{entry-at, up-to, last-index, short, in-a-row}
+use Rattle.servers.specs.World.{Program, Group, limits, Happening, World, Lived, seen, memory, Asked, was-asked}
+use Rattle.servers.specs.World.{was-told, before, Told, Happened, One-command, store-after, reply-in, there, each-once}
+use Rattle.servers.specs.World.{earlier}
 
 -- events that their bytes can carry: bytes, servers in a byte, other numbers in eight
 unfoldable pub all-below : ℕ → List ℕ → Bool
@@ -34,7 +38,9 @@ fine (drop-if k v) = bytes k && bytes v
 
 unfoldable pub all-fine : List Entry → Bool
 all-fine [] = true
-all-fine (e ∷ es) = ((ltb (e .at) 256 && eight (e .client)) && (eight (e .id) && eight (e .index))) && ((eight (e .term) && fine (e .command)) && all-fine es)
+all-fine (e ∷ es) =
+    ((ltb (e .at) 256 && eight (e .client)) && (eight (e .id) && eight (e .index))) && ((eight (e .term) &&
+    fine (e .command)) && all-fine es)
 
 abbrev pub fine-message : Message → Bool
 fine-message (ask-vote t i u) = eight t && (eight i && eight u)
@@ -55,28 +61,36 @@ all-readable (e ∷ es) = readable e && all-readable es
 
 abbrev pub Good-limits : (ℕ → Bool) → Limits → Type 0
 Good-limits can l =
-    (2 ≤ l .servers) × (l .servers ≤ 16) × (l .me < l .servers) × (1 ≤ l .clients) × (l .clients ≤ 4096) × (1 ≤ l .room) × (l .room ≤ 65536) × ((k : ℕ) → l .events-can k ≡ can k)
+    (2 ≤ l .servers) × (l .servers ≤ 16) × (l .me < l .servers) × (1 ≤ l .clients) × (l .clients ≤ 4096) ×
+    (1 ≤ l .room) × (l .room ≤ 65536) × ((k : ℕ) → l .events-can k ≡ can k)
 
 abbrev pub Good-group : (ℕ → Bool) → Group → Type 0
 Good-group can g =
-    (2 ≤ g .servers) × (g .servers ≤ 16) × (1 ≤ g .clients) × (g .clients ≤ 4096) × (1 ≤ g .room) × (g .room ≤ 65536) × ((k : ℕ) → g .events-can k ≡ can k)
+    (2 ≤ g .servers) × (g .servers ≤ 16) × (1 ≤ g .clients) × (g .clients ≤ 4096) × (1 ≤ g .room) × (g .room ≤ 65536) ×
+    ((k : ℕ) → g .events-can k ≡ can k)
 
--- THE MAIN PROMISE, FIRST HALF: a server does what the definitions say, after any readable events whatever
+-- THE MAIN PROMISE, FIRST HALF: a server answers as the definitions say, after any readable events whatever
 unfoldable pub Right : (ℕ → Bool) → Program → Type 0
 Right can f =
-    (l : Limits) (es : List Event) (e : Event) → Good-limits can l → all-readable (e ∷ es) ≡ true → f .says (memory f l es) e ≡ answer l (state l es) e
+    (l : Limits) (es : List Event) (e : Event) → Good-limits can l → all-readable (e ∷ es) ≡ true →
+    f .says (memory f l es) e ≡ answer l (state l es) e
 
+-- what is refused leaves the memory as it is, word for word
 unfoldable pub Refusal-keeps : (ℕ → Bool) → Program → Type 0
 Refusal-keeps can f =
-    (l : Limits) (es : List Event) (e : Event) → Good-limits can l → all-readable (e ∷ es) ≡ true → 0 < turned l (state l es) e → f .called (memory f l es) e ≡ memory f l es
+    (l : Limits) (es : List Event) (e : Event) → Good-limits can l → all-readable (e ∷ es) ≡ true →
+    0 < turned l (state l es) e → f .called (memory f l es) e ≡ memory f l es
 
+-- memory stays within its bound, in words of 64 bits
 unfoldable pub Enough-memory : (ℕ → Bool) → Program → Type 0
 Enough-memory can f =
     (l : Limits) (es : List Event) → Good-limits can l → all-readable es ≡ true →
-    (length (memory f l es) ≤ 144 * l .room + 72 * l .clients + 8 * l .servers + 256) × (all-below 18446744073709551616 (memory f l es) ≡ true)
+    (length (memory f l es) ≤ 144 * l .room + 72 * l .clients + 8 * l .servers + 256) ×
+    (all-below 18446744073709551616 (memory f l es) ≡ true)
 
--- SECOND HALF: as if there were one. Whatever happened, the commands that were answered, and perhaps some that were asked and not answered, stand in one order, each once, so that each answer is
--- what that command would have been told if they had been done one after the other; and what was answered before something else was asked anywhere comes before it
+-- SECOND HALF: linearizability, as if there were one server. Whatever happened, the commands that were answered, and perhaps
+-- some that were asked and not answered, stand in one order, each once, so that each answer is what that command would have been
+-- told if they had been done one after the other; and what was answered before something else was asked comes before it
 unfoldable pub readable-world : World → Type 0
 readable-world w = (i : ℕ) → all-readable (seen i (w .past)) ≡ true
 
@@ -103,36 +117,41 @@ abbrev pub at-server : Group → World → ℕ → State
 at-server g w i = state (limits g i) (seen i (w .past))
 
 abbrev pub Holds : (World → Group → Type 0) → Type 0
-Holds p = (can : ℕ → Bool) (f : Program) (g : Group) (w : World) → Right can f → Good-group can g → Lived f g w → readable-world w → p w g
+Holds p =
+    (can : ℕ → Bool) (f : Program) (g : Group) (w : World) → Right can f → Good-group can g → Lived f g w →
+    readable-world w → p w g
 
--- 1. of one term at most one leads
+-- 1. at most one server leads a term
 unfoldable pub One-leads : Type 0
 One-leads =
-    Holds (λ w g. (i j : ℕ) → i < g .servers → j < g .servers → at-server g w i .kind ≡ 2 → at-server g w j .kind ≡ 2 → at-server g w i .term ≡ at-server g w j .term → i ≡ j)
+    Holds (λ w g. (i j : ℕ) → i < g .servers → j < g .servers → at-server g w i .kind ≡ 2 → at-server g w j .kind ≡ 2 →
+    at-server g w i .term ≡ at-server g w j .term → i ≡ j)
 
--- 2. two logs that have an entry of one index and one term are the same up to there
+-- 2. log matching: two logs that have an entry of one index and one term are the same up to there
 unfoldable pub has-term : List Entry → ℕ → Bool
 has-term [] t = false
 has-term (e ∷ es) t = eqb (e .term) t
 
 unfoldable pub Logs-match : Type 0
 Logs-match =
-    Holds (λ w g. (i j n t : ℕ) → i < g .servers → j < g .servers → has-term (entry-at n (at-server g w i .log)) t ≡ true → has-term (entry-at n (at-server g w j .log)) t ≡ true →
+    Holds (λ w g. (i j n t : ℕ) → i < g .servers → j < g .servers →
+    has-term (entry-at n (at-server g w i .log)) t ≡ true → has-term (entry-at n (at-server g w j .log)) t ≡ true →
     up-to n (at-server g w i .log) ≡ up-to n (at-server g w j .log))
 
--- 3. what was settled is the same everywhere
+-- 3. state machine safety: what is committed is the same everywhere
 unfoldable pub Settled-is-same : Type 0
 Settled-is-same =
     Holds (λ w g. (i j n : ℕ) → i < g .servers → j < g .servers → n ≤ at-server g w i .commit → n ≤ at-server g w j .commit →
     up-to n (at-server g w i .log) ≡ up-to n (at-server g w j .log))
 
--- 4. who leads has all that was settled anywhere in its own or earlier terms
+-- 4. a leader has all that is committed at any server of its own or an earlier term
 unfoldable pub Who-leads-has-it : Type 0
 Who-leads-has-it =
-    Holds (λ w g. (i j n : ℕ) → i < g .servers → j < g .servers → at-server g w i .kind ≡ 2 → at-server g w j .term ≤ at-server g w i .term → n ≤ at-server g w j .commit →
+    Holds (λ w g. (i j n : ℕ) → i < g .servers → j < g .servers → at-server g w i .kind ≡ 2 →
+    at-server g w j .term ≤ at-server g w i .term → n ≤ at-server g w j .commit →
     up-to n (at-server g w i .log) ≡ up-to n (at-server g w j .log))
 
--- 5. logs are in a row from 1, terms never fall along them, and none is beyond the server's own
+-- 5. logs are in a row from 1, terms never fall along them, none is beyond the server's own, and all that is committed is there
 unfoldable pub rising-terms : List Entry → ℕ → Bool
 rising-terms [] t = true
 rising-terms (e ∷ es) t = leb (e .term) t && rising-terms es (e .term)
@@ -140,18 +159,20 @@ rising-terms (e ∷ es) t = leb (e .term) t && rising-terms es (e .term)
 unfoldable pub In-a-row : Type 0
 In-a-row =
     Holds (λ w g. (i : ℕ) → i < g .servers →
-    (in-a-row 0 (at-server g w i .log) ≡ true) × (rising-terms (at-server g w i .log) (at-server g w i .term) ≡ true) × (at-server g w i .commit ≤ last-index (at-server g w i .log)))
+    (in-a-row 0 (at-server g w i .log) ≡ true) × (rising-terms (at-server g w i .log) (at-server g w i .term) ≡ true) ×
+    (at-server g w i .commit ≤ last-index (at-server g w i .log)))
 
--- 6. told again is told the same
+-- 6. a client that is told again is told the same
 unfoldable pub Told-the-same : Type 0
 Told-the-same =
-    (can : ℕ → Bool) (f : Program) (g : Group) (w : World) (s t : Said) → Right can f → Good-group can g → Lived f g w → readable-world w → One-command (w .past) →
+    (can : ℕ → Bool) (f : Program) (g : Group) (w : World) (s t : Said) → Right can f → Good-group can g → Lived f g w →
+    readable-world w → One-command (w .past) →
     Told s (w .past) → Told t (w .past) → s .client ≡ t .client → s .id ≡ t .id → s .reply ≡ t .reply
 
 -- 7. only what was asked is told
 unfoldable pub Told-was-asked : Type 0
 Told-was-asked = Holds (λ w g. (s : Said) → Told s (w .past) → was-asked (w .past) (s .client) (s .id) ≡ true)
 
--- 8. an event that is turned away changes nothing
+-- 8. an event that is refused changes nothing
 unfoldable pub Turned-away : Type 0
 Turned-away = (l : Limits) (s : State) (e : Event) → 0 < turned l s e → after l s e ≡ s

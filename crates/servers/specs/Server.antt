@@ -1,4 +1,5 @@
--- What one server does with each event. Assumes nothing: these are definitions.
+-- What one Raft server does with each event: its state, its messages, when it refuses an event, and what it then does and
+-- answers. Assumes nothing: these are definitions.
 use mathlib.Core.Path.{_≡_}
 use mathlib.Core.Logic.{_⊎_, _≢_}
 use mathlib.Core.Bool.{Bool, true, false, not, _&&_, _||_}
@@ -8,77 +9,91 @@ use lib.Dec.{ltb, leb, eqb}
 use lib.ListN.{length, getD}
 use Rattle.servers.specs.Store.{pick, Command, get, put, remove, swap, drop-if, Reply, Store, done, reply}
 
+-- an entry of the log: a client's command, with the term in which a leader took it
 pub record Entry : Type 0 where
-  pub at : ℕ  -- the server that took it
+  pub at : ℕ  -- the leader that took it, which is to answer the client
   pub client : ℕ
-  pub id : ℕ
+  pub id : ℕ  -- the client's number for it
   pub index : ℕ  -- from 1
   pub term : ℕ
   pub command : Command
 
+-- Raft's four messages: RequestVote and its reply, AppendEntries and its reply
 pub data Message : Type 0 where
-  ask-vote : ℕ → ℕ → ℕ → Message  -- term, and the last entry's index and term
-  vote : ℕ → Bool → Message
-  append : ℕ → ℕ → ℕ → List Entry → ℕ → Message  -- term, the index and term before, entries, the last first, and how far they are settled
-  appended : ℕ → ℕ → Bool → Message  -- term, up to which index, and whether
+  ask-vote : ℕ → ℕ → ℕ → Message  -- term, and the index and term of the candidate's last entry
+  vote : ℕ → Bool → Message  -- term, and whether the vote is granted
+  -- term, the index and term of the entry before, entries, the last first, and the leader's commit index
+  append : ℕ → ℕ → ℕ → List Entry → ℕ → Message
+  appended : ℕ → ℕ → Bool → Message  -- term, the index of the last entry that came (0 if none), and whether they were taken
 
+-- what can come to a server; `garbled` is bytes that are no event, with the place where they cease to be one
 pub data Event : Type 0 where
-  timeout : Event
-  request : ℕ → ℕ → Command → Event  -- of a client, with its number
-  comes : ℕ → Message → Event  -- from a server
+  timeout : Event  -- the election timer of a follower or candidate, the heartbeat timer of a leader
+  request : ℕ → ℕ → Command → Event  -- client, its number, command
+  comes : ℕ → Message → Event  -- the sender, and its message
   restart : Event
   garbled : ℕ → Event
 
+-- a reply that a client is told
 pub record Said : Type 0 where
   pub client : ℕ
   pub id : ℕ
   pub reply : Reply
 
+-- a message with its receiver
 pub record Letter : Type 0 where
   pub to : ℕ
   pub message : Message
 
+-- what a server answers to an event: a refusal with its number and place; that it doesn't lead; or what it tells clients and
+-- sends to servers
 pub data Answer : Type 0 where
   refused : ℕ → ℕ → Answer
   not-leader : Answer
   does : List Said → List Letter → Answer
 
+-- what a server is opened with
 pub record Limits : Type 0 where
-  pub events-can : ℕ → Bool
-  pub servers : ℕ
-  pub me : ℕ
-  pub clients : ℕ
+  pub events-can : ℕ → Bool  -- which kinds of event it can do, by number
+  pub servers : ℕ  -- how many servers the group has
+  pub me : ℕ  -- which of them this is, from 0
+  pub clients : ℕ  -- how many clients there are
   pub room : ℕ  -- how many entries a log may have
 
+-- a client's session: whether any command of it was done, the last number done, and its reply
 pub record Cached : Type 0 where
   pub there : Bool
   pub id : ℕ
   pub reply : Reply
 
+-- a server's state
 pub record State : Type 0 where
   pub term : ℕ
-  pub voted : List ℕ  -- none or one
-  pub leader : List ℕ  -- none or one
+  pub voted : List ℕ  -- for whom it voted in this term: none or one
+  pub leader : List ℕ  -- who leads, as far as it knows: none or one
   pub log : List Entry  -- the last first
-  pub commit : ℕ
-  pub applied : ℕ
+  pub commit : ℕ  -- the commit index: up to where the log is committed ('settled')
+  pub applied : ℕ  -- up to where it is applied to the store ('done')
   pub store : Store
-  pub nexts : List (List ℕ)  -- for each server, none or the next index
-  pub matches : List ℕ  -- for each server, up to where it has the log, as far as is known
-  pub send : Bool
-  pub votes : List Bool  -- for each server
-  pub kind : ℕ  -- 0 follows, 1 wants to lead, 2 leads
-  pub cache : List Cached  -- for each client, the last that was answered
+  pub nexts : List (List ℕ)  -- nextIndex: for each server, none or the index from which to send
+  pub matches : List ℕ  -- matchIndex: for each server, up to where it is known to have the log
+  pub send : Bool  -- whether there is reason to send entries to the others
+  pub votes : List Bool  -- for each server, whether it voted for this one in this term
+  pub kind : ℕ  -- the role: 0 follower, 1 candidate, 2 leader
+  pub cache : List Cached  -- for each client, its session
 
+-- n times the same
 unfoldable pub many : {A : Type 0} → ℕ → A → List A
 many zero a = []
 many (suc n) a = a ∷ many n a
 
+-- what stands at a place, from 0, or the default
 unfoldable pub nth : {A : Type 0} → A → List A → ℕ → A
 nth d [] n = d
 nth d (x ∷ xs) zero = x
 nth d (x ∷ xs) (suc n) = nth d xs n
 
+-- the list with another value at a place
 unfoldable pub set-at : {A : Type 0} → List A → ℕ → A → List A
 set-at [] n a = []
 set-at (x ∷ xs) zero a = a ∷ xs
@@ -90,6 +105,7 @@ no-reply = record { now = []; old = [] }
 abbrev pub no-cached : Cached
 no-cached = record { there = false; id = 0; reply = no-reply }
 
+-- a server that was never opened before
 abbrev pub new-server : Limits → State
 new-server l =
     record {
@@ -108,7 +124,8 @@ new-server l =
       cache = many (l .clients) no-cached;
     }
 
--- the log
+-- THE LOG, the last entry first: the last index and term; the entry at an index, as a list of none or one; the entries above
+-- an index, and up to one
 abbrev pub last-index : List Entry → ℕ
 last-index [] = 0
 last-index (e ∷ es) = e .index
@@ -141,6 +158,7 @@ abbrev pub term-of : List Entry → ℕ
 term-of [] = 0
 term-of (e ∷ es) = e .term
 
+-- whether entries bring something new: there are some, and the last of them isn't there with its term
 abbrev pub has-new : State → List Entry → Bool
 has-new s es = not (empty es) && not (term-is (entry-at (last-index es) (s .log)) (last-term es))
 
@@ -150,54 +168,210 @@ at-least a b = pick (ltb a b) b a
 abbrev pub at-most : ℕ → ℕ → ℕ
 at-most a b = pick (ltb a b) a b
 
--- states with one thing other than before
+-- STATES with one thing other than before: a newer term, in which it follows and has neither voted nor knows a leader
 abbrev pub with-term : ℕ → State → State
-with-term t s = record { term = t; voted = []; leader = []; log = s .log; commit = s .commit; applied = s .applied; store = s .store; nexts = s .nexts; matches = s .matches; send = s .send; votes = s .votes; kind = 0; cache = s .cache }
+with-term t s =
+    record {
+      term = t;
+      voted = [];
+      leader = [];
+      log = s .log;
+      commit = s .commit;
+      applied = s .applied;
+      store = s .store;
+      nexts = s .nexts;
+      matches = s .matches;
+      send = s .send;
+      votes = s .votes;
+      kind = 0;
+      cache = s .cache;
+    }
 
 abbrev pub advanced : ℕ → State → State
 advanced t s = pick (ltb (s .term) t) (with-term t s) s
 
+-- a follower of this leader
 abbrev pub following : ℕ → State → State
-following h s = record { term = s .term; voted = s .voted; leader = h ∷ []; log = s .log; commit = s .commit; applied = s .applied; store = s .store; nexts = s .nexts; matches = s .matches; send = s .send; votes = s .votes; kind = 0; cache = s .cache }
+following h s =
+    record {
+      term = s .term;
+      voted = s .voted;
+      leader = h ∷ [];
+      log = s .log;
+      commit = s .commit;
+      applied = s .applied;
+      store = s .store;
+      nexts = s .nexts;
+      matches = s .matches;
+      send = s .send;
+      votes = s .votes;
+      kind = 0;
+      cache = s .cache;
+    }
 
+-- another log and commit index
 abbrev pub with-log : List Entry → ℕ → State → State
-with-log es c s = record { term = s .term; voted = s .voted; leader = s .leader; log = es; commit = c; applied = s .applied; store = s .store; nexts = s .nexts; matches = s .matches; send = s .send; votes = s .votes; kind = s .kind; cache = s .cache }
+with-log es c s =
+    record {
+      term = s .term;
+      voted = s .voted;
+      leader = s .leader;
+      log = es;
+      commit = c;
+      applied = s .applied;
+      store = s .store;
+      nexts = s .nexts;
+      matches = s .matches;
+      send = s .send;
+      votes = s .votes;
+      kind = s .kind;
+      cache = s .cache;
+    }
 
 abbrev pub with-voted : ℕ → State → State
-with-voted h s = record { term = s .term; voted = h ∷ []; leader = s .leader; log = s .log; commit = s .commit; applied = s .applied; store = s .store; nexts = s .nexts; matches = s .matches; send = s .send; votes = s .votes; kind = s .kind; cache = s .cache }
+with-voted h s =
+    record {
+      term = s .term;
+      voted = h ∷ [];
+      leader = s .leader;
+      log = s .log;
+      commit = s .commit;
+      applied = s .applied;
+      store = s .store;
+      nexts = s .nexts;
+      matches = s .matches;
+      send = s .send;
+      votes = s .votes;
+      kind = s .kind;
+      cache = s .cache;
+    }
 
+-- another match index and next index of a server
 abbrev pub with-match : ℕ → ℕ → ℕ → State → State
-with-match h m n s = record { term = s .term; voted = s .voted; leader = s .leader; log = s .log; commit = s .commit; applied = s .applied; store = s .store; nexts = set-at (s .nexts) h (n ∷ []); matches = set-at (s .matches) h m; send = s .send; votes = s .votes; kind = s .kind; cache = s .cache }
+with-match h m n s =
+    record {
+      term = s .term;
+      voted = s .voted;
+      leader = s .leader;
+      log = s .log;
+      commit = s .commit;
+      applied = s .applied;
+      store = s .store;
+      nexts = set-at (s .nexts) h (n ∷ []);
+      matches = set-at (s .matches) h m;
+      send = s .send;
+      votes = s .votes;
+      kind = s .kind;
+      cache = s .cache;
+    }
 
 abbrev pub with-next : ℕ → ℕ → State → State
-with-next h n s = record { term = s .term; voted = s .voted; leader = s .leader; log = s .log; commit = s .commit; applied = s .applied; store = s .store; nexts = set-at (s .nexts) h (n ∷ []); matches = s .matches; send = s .send; votes = s .votes; kind = s .kind; cache = s .cache }
+with-next h n s =
+    record {
+      term = s .term;
+      voted = s .voted;
+      leader = s .leader;
+      log = s .log;
+      commit = s .commit;
+      applied = s .applied;
+      store = s .store;
+      nexts = set-at (s .nexts) h (n ∷ []);
+      matches = s .matches;
+      send = s .send;
+      votes = s .votes;
+      kind = s .kind;
+      cache = s .cache;
+    }
 
 abbrev pub with-commit : ℕ → State → State
-with-commit c s = record { term = s .term; voted = s .voted; leader = s .leader; log = s .log; commit = c; applied = s .applied; store = s .store; nexts = s .nexts; matches = s .matches; send = s .send; votes = s .votes; kind = s .kind; cache = s .cache }
+with-commit c s =
+    record {
+      term = s .term;
+      voted = s .voted;
+      leader = s .leader;
+      log = s .log;
+      commit = c;
+      applied = s .applied;
+      store = s .store;
+      nexts = s .nexts;
+      matches = s .matches;
+      send = s .send;
+      votes = s .votes;
+      kind = s .kind;
+      cache = s .cache;
+    }
 
 abbrev pub with-send : Bool → State → State
-with-send b s = record { term = s .term; voted = s .voted; leader = s .leader; log = s .log; commit = s .commit; applied = s .applied; store = s .store; nexts = s .nexts; matches = s .matches; send = b; votes = s .votes; kind = s .kind; cache = s .cache }
+with-send b s =
+    record {
+      term = s .term;
+      voted = s .voted;
+      leader = s .leader;
+      log = s .log;
+      commit = s .commit;
+      applied = s .applied;
+      store = s .store;
+      nexts = s .nexts;
+      matches = s .matches;
+      send = b;
+      votes = s .votes;
+      kind = s .kind;
+      cache = s .cache;
+    }
 
 abbrev pub with-applied : ℕ → State → State
-with-applied i s = record { term = s .term; voted = s .voted; leader = s .leader; log = s .log; commit = s .commit; applied = i; store = s .store; nexts = s .nexts; matches = s .matches; send = s .send; votes = s .votes; kind = s .kind; cache = s .cache }
+with-applied i s =
+    record {
+      term = s .term;
+      voted = s .voted;
+      leader = s .leader;
+      log = s .log;
+      commit = s .commit;
+      applied = i;
+      store = s .store;
+      nexts = s .nexts;
+      matches = s .matches;
+      send = s .send;
+      votes = s .votes;
+      kind = s .kind;
+      cache = s .cache;
+    }
 
 abbrev pub with-done : Store → List Cached → State → State
-with-done d c s = record { term = s .term; voted = s .voted; leader = s .leader; log = s .log; commit = s .commit; applied = s .applied; store = d; nexts = s .nexts; matches = s .matches; send = s .send; votes = s .votes; kind = s .kind; cache = c }
+with-done d c s =
+    record {
+      term = s .term;
+      voted = s .voted;
+      leader = s .leader;
+      log = s .log;
+      commit = s .commit;
+      applied = s .applied;
+      store = d;
+      nexts = s .nexts;
+      matches = s .matches;
+      send = s .send;
+      votes = s .votes;
+      kind = s .kind;
+      cache = c;
+    }
 
 abbrev pub next-of : List ℕ → ℕ → ℕ
 next-of [] d = d
 next-of (n ∷ ns) d = n
 
+-- the next index to send to a server; where nothing is known, the log's last index
 abbrev pub next-for : State → ℕ → ℕ
 next-for s h = next-of (nth [] (s .nexts) h) (last-index (s .log))
 
--- entries from a server that leads
+-- APPENDENTRIES comes: if it brings something new, the log becomes this one, and it is committed up to what the leader says or
+-- the log's end, or as far as it was
 abbrev pub after-append : State → ℕ → ℕ → List Entry → ℕ → List Entry → State
 after-append s h t es c log =
     pick (has-new s es)
     (following h (with-log log (at-least (s .commit) (at-most c (last-index log))) (advanced t s)))
     (following h (advanced t s))
 
+-- an older term changes nothing, nor do entries after one that isn't there with its term; index 0 is always there
 abbrev pub appends : State → ℕ → ℕ → ℕ → ℕ → List Entry → ℕ → State
 appends s h t i u es c =
     pick (ltb t (s .term)) s
@@ -209,14 +383,14 @@ append-reply s t i u es =
     pick (ltb t (s .term)) (appended (s .term) (last-index es) false)
     (pick (eqb i 0 || term-is (entry-at i (s .log)) u) (appended t (last-index es) true) (appended (s .term) (last-index es) false))
 
--- a server answers them
+-- the reply to AppendEntries comes: of this term, match and next index move on, or next steps back; of a newer, it is taken
 abbrev pub hears-appended : State → ℕ → ℕ → ℕ → Bool → State
 hears-appended s h t i ok =
     pick (eqb (s .term) t)
     (pick ok (with-match h (at-least (nth 0 (s .matches) h) i) (at-least (next-for s h) (suc i)) s) (with-next h (next-for s h - 1) s))
     (advanced t s)
 
--- a server wants to lead
+-- REQUESTVOTE comes: whether the candidate's log is at least as up to date
 abbrev pub as-new : ℕ → ℕ → State → Bool
 as-new i u s = ltb (last-term (s .log)) u || (eqb u (last-term (s .log)) && leb (last-index (s .log)) i)
 
@@ -224,6 +398,7 @@ abbrev pub may-vote : List ℕ → ℕ → Bool
 may-vote [] h = true
 may-vote (v ∷ vs) h = eqb v h
 
+-- whether the vote is granted: of no older term, no leader known, the log as up to date, and no other vote in this term
 abbrev pub grants : State → ℕ → ℕ → ℕ → ℕ → Bool
 grants s h t i u =
     let a : State = advanced t s in
@@ -232,7 +407,7 @@ grants s h t i u =
 abbrev pub asked : State → ℕ → ℕ → ℕ → ℕ → State
 asked s h t i u = pick (ltb t (s .term)) s (pick (grants s h t i u) (with-voted h (advanced t s)) (advanced t s))
 
--- and is voted for, or not
+-- the reply to RequestVote comes: votes are counted, and more than half of all win
 unfoldable pub count : List Bool → ℕ
 count [] = 0
 count (b ∷ bs) = pick b (suc (count bs)) (count bs)
@@ -240,6 +415,7 @@ count (b ∷ bs) = pick b (suc (count bs)) (count bs)
 abbrev pub won : Limits → List Bool → Bool
 won l vs = ltb (l .servers / 2) (count vs)
 
+-- what is known of the others is set back, and with a majority it leads
 abbrev pub voted-on : Limits → ℕ → Bool → State → State
 voted-on l h ok s =
     let vs : List Bool = pick ok (set-at (s .votes) h true) (s .votes) in
@@ -263,6 +439,7 @@ abbrev pub hears-vote : Limits → State → ℕ → ℕ → Bool → State
 hears-vote l s h t ok =
     pick (ltb (s .term) t) (advanced t s) (pick (ltb t (s .term)) s (pick (eqb (s .kind) 1) (voted-on l h ok s) s))
 
+-- the state after a message; and what is answered to its sender
 abbrev pub heard : Limits → State → ℕ → Message → State
 heard l s h (ask-vote t i u) = asked s h t i u
 heard l s h (vote t ok) = hears-vote l s h t ok
@@ -275,7 +452,7 @@ back s h (vote t ok) = []
 back s h (append t i u es c) = record { to = h; message = append-reply s t i u es } ∷ []
 back s h (appended t i ok) = []
 
--- time is up, or a client asks
+-- TIMEOUT at one that doesn't lead: a candidate of the next term, with its own vote
 abbrev pub wants : Limits → State → State
 wants l s =
     record {
@@ -294,10 +471,12 @@ wants l s =
       cache = s .cache;
     }
 
+-- a letter to each other server
 unfoldable pub to-others : ℕ → ℕ → (ℕ → Message) → List Letter
 to-others zero m f = []
 to-others (suc n) m f = to-others n m f ++ pick (eqb n m) [] (record { to = n; message = f n } ∷ [])
 
+-- a client's REQUEST at a leader: one entry more
 abbrev pub with-request : Limits → ℕ → ℕ → Command → State → State
 with-request l c k x s =
     let i : ℕ = suc (last-index (s .log)) in
@@ -317,7 +496,8 @@ with-request l c k x s =
       cache = s .cache;
     }
 
--- who leads settles what more than half have, of its own term, and sends to the others, if there is reason to
+-- COMMIT AND SEND: a leader commits the furthest entry of its own term that a majority has, and sends each other server what
+-- comes after its place, if there is reason to
 unfoldable pub have-it : ℕ → List ℕ → ℕ
 have-it i [] = 0
 have-it i (m ∷ ms) = pick (leb i m) (suc (have-it i ms)) (have-it i ms)
@@ -325,7 +505,8 @@ have-it i (m ∷ ms) = pick (leb i m) (suc (have-it i ms)) (have-it i ms)
 unfoldable pub settled-to : Limits → State → List Entry → ℕ
 settled-to l s [] = s .commit
 settled-to l s (e ∷ es) =
-    pick ((eqb (e .term) (s .term) && ltb (s .commit) (e .index)) && ltb (l .servers / 2) (have-it (e .index) (s .matches))) (e .index) (settled-to l s es)
+    pick ((eqb (e .term) (s .term) && ltb (s .commit) (e .index)) && ltb (l .servers / 2) (have-it (e .index) (s .matches)))
+    (e .index) (settled-to l s es)
 
 abbrev pub settles : Limits → State → State
 settles l s = pick (eqb (s .kind) 2) (with-commit (settled-to l s (s .log)) s) s
@@ -341,7 +522,8 @@ sends-now l s = pick (eqb (s .kind) 2 && s .send) (to-others (l .servers) (l .me
 abbrev pub sent-now : State → State
 sent-now s = pick (eqb (s .kind) 2) (with-send false s) s
 
--- what is settled is done, each command of a client once, in the order of its numbers, and told by the server that took it
+-- APPLY: what is committed is done in order, a client's command only if its number is above the last done for that client; the
+-- server that took it tells the reply, again if it is of just the last number
 unfoldable pub due : ℕ → ℕ → List Entry → List Entry
 due lo hi [] = []
 due lo hi (e ∷ es) = due lo hi es ++ pick (ltb lo (e .index) && leb (e .index) hi) (e ∷ []) []
@@ -355,13 +537,18 @@ is-again s e = let c : Cached = nth no-cached (s .cache) (e .client) in c .there
 abbrev pub do-one : State → Entry → State
 do-one s e =
     pick (is-new s e)
-    (with-done (done (e .command) (s .store)) (set-at (s .cache) (e .client) (record { there = true; id = e .id; reply = reply (e .command) (s .store) })) s)
+    (with-done (done (e .command) (s .store))
+    (set-at (s .cache) (e .client) (record { there = true; id = e .id; reply = reply (e .command) (s .store) })) s)
     s
 
 abbrev pub tell-one : Limits → State → Entry → List Said
 tell-one l s e =
     pick (eqb (e .at) (l .me) && (is-new s e || is-again s e))
-    (record { client = e .client; id = e .id; reply = pick (is-new s e) (reply (e .command) (s .store)) (nth no-cached (s .cache) (e .client) .reply) } ∷ []) []
+    (record {
+      client = e .client;
+      id = e .id;
+      reply = pick (is-new s e) (reply (e .command) (s .store)) (nth no-cached (s .cache) (e .client) .reply);
+    } ∷ []) []
 
 unfoldable pub do-all : State → List Entry → State
 do-all s [] = s
@@ -380,7 +567,7 @@ finished s = with-applied (at-least (s .applied) (s .commit)) (do-all s (dues s)
 abbrev pub after-all : Limits → State → State
 after-all l s = finished (sent-now (settles l s))
 
--- a server that starts again has what it had written down, and follows
+-- RESTART: a server keeps what it had written down, and follows
 abbrev pub restarted : Limits → State → State
 restarted l s =
     record {
@@ -406,7 +593,8 @@ event-number (comes h m) = 2
 event-number restart = 3
 event-number (garbled n) = 255
 
--- why an event is turned away: 1 no event, 2 out of range, or not there yet, 3 entries that aren't in a row, or beyond the room, 4 the log is full, 5 the last term
+-- REFUSALS: 1 bytes that are no event; 2 a client, server, length, term or index out of range, a message from itself, or an
+-- event that it can't do; 3 entries not in a row, or beyond the room; 4 the leader's log is full; 5 the last term
 unfoldable pub in-a-row : ℕ → List Entry → Bool
 in-a-row i [] = true
 in-a-row i (e ∷ es) = eqb (e .index) (suc (i + length es)) && in-a-row i es
@@ -433,6 +621,7 @@ unfoldable pub all-short-entries : List Entry → Bool
 all-short-entries [] = true
 all-short-entries (e ∷ es) = short (e .command) && all-short-entries es
 
+-- the last term, 2^62
 abbrev pub last-of-all : ℕ
 last-of-all = 4611686018427387904
 
@@ -443,7 +632,9 @@ terms-below (e ∷ es) = leb (e .term) last-of-all && terms-below es
 abbrev pub good-message : Limits → Message → Bool
 good-message l (ask-vote t i u) = leb t last-of-all && (leb i (l .room) && leb u last-of-all)
 good-message l (vote t ok) = leb t last-of-all
-good-message l (append t i u es c) = ((leb t last-of-all && (leb i (l .room) && leb u last-of-all)) && (clients-there l es && all-short-entries es)) && (terms-below es && leb c (l .room))
+good-message l (append t i u es c) =
+    ((leb t last-of-all && (leb i (l .room) && leb u last-of-all)) && (clients-there l es && all-short-entries es))
+    && (terms-below es && leb c (l .room))
 good-message l (appended t i ok) = leb t last-of-all && leb i (l .room)
 
 abbrev pub good-fields : Limits → Event → Bool
@@ -466,6 +657,7 @@ turned-by l s (comes h m) = out-of-row l m
 turned-by l s restart = 0
 turned-by l s (garbled n) = 1
 
+-- the refusal's number, 0 if the event is taken
 abbrev pub turned : Limits → State → Event → ℕ
 turned l s e = pick ((eqb (event-number e) 255 || (l .events-can) (event-number e)) && good-fields l e) (turned-by l s e) 2
 
@@ -476,7 +668,7 @@ place (request c k x) n = 0
 place (comes h m) n = 0
 place restart n = 0
 
--- the first half of what an event does
+-- WHAT AN EVENT DOES, first by its kind, and then, but for a restart, commit, send and apply
 abbrev pub first-step : Limits → State → Event → State
 first-step l s timeout = pick (eqb (s .kind) 2) (with-send true s) (wants l s)
 first-step l s (request c k x) = pick (eqb (s .kind) 2) (with-request l c k x s) s
@@ -485,7 +677,9 @@ first-step l s restart = restarted l s
 first-step l s (garbled n) = s
 
 abbrev pub first-letters : Limits → State → Event → List Letter
-first-letters l s timeout = pick (eqb (s .kind) 2) [] (to-others (l .servers) (l .me) (λ h. ask-vote (suc (s .term)) (last-index (s .log)) (last-term (s .log))))
+first-letters l s timeout =
+    pick (eqb (s .kind) 2) []
+    (to-others (l .servers) (l .me) (λ h. ask-vote (suc (s .term)) (last-index (s .log)) (last-term (s .log))))
 first-letters l s (request c k x) = []
 first-letters l s (comes h m) = back s h m
 first-letters l s restart = []
@@ -514,13 +708,14 @@ doing l s e =
     pick (is-request e && not (eqb (s .kind) 2)) not-leader
     (pick (ends-there e) (does [] []) (does (tell-all l (sent-now m) (dues (sent-now m))) (first-letters l s e ++ sends-now l m)))
 
+-- THE STATE AFTER an event, and THE ANSWER to it; what is refused changes nothing
 abbrev pub after : Limits → State → Event → State
 after l s e = pick (eqb (turned l s e) 0) (stepped l s e) s
 
 abbrev pub answer : Limits → State → Event → Answer
 answer l s e = pick (eqb (turned l s e) 0) (doing l s e) (refused (turned l s e) (place e (turned l s e)))
 
--- a server's state by what happened to it, the last first
+-- a server's state by the events that it saw, the last first
 unfoldable pub state : Limits → List Event → State
 state l [] = new-server l
 state l (e ∷ es) = after l (state l es) e

@@ -1,0 +1,4 @@
+pub mod Bytes
+pub mod Cells
+pub mod Order
+pub mod Parts

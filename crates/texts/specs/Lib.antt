@@ -1,1 +1,4 @@
 pub mod Words
+pub mod Order
+pub mod Means
+pub mod Commands

@@ -1,0 +1,15 @@
+pub mod Codecs
+pub mod Numbers
+pub mod Commands
+pub mod Events
+pub mod Writable
+pub mod Trips
+pub mod Places
+pub mod Letters
+pub mod Tests
+pub mod Lengths
+pub mod Stored
+pub mod Kept
+pub mod Steps
+pub mod Answering
+pub mod Sizes

@@ -1,13 +1,13 @@
 -- What is promised of the bytes. Each is a statement; the contracts of src/promises.rt ask for their proofs.
-use mathlib.Core.Bool.{Bool, true, false, not, _&&_}
+use mathlib.Core.Bool.{Bool, true, false, _&&_}
 use mathlib.Core.List.{List, [], _∷_, _++_}
 use mathlib.Core.Path.{_≡_}
-use Prim.Native.Nat.{ℕ, zero, suc, _+_, _*_, _-_, _≤_, _<_}
+use Prim.Native.Nat.{ℕ, _≤_, _<_}
 use lib.ListN.{length, take}
 use Rattle.servers.specs.Store.{Perhaps, Command, get, put, remove, swap, drop-if}
 use Rattle.servers.specs.Server.{Entry, Message, ask-vote, vote, append, appended, Event, timeout, request, comes, restart, garbled}
 use Rattle.servers.specs.Promise.{eight, bytes, readable}
-use Rattle.wire.specs.Write.{write-event, write-message}
+use Rattle.wire.specs.Write.{write-event}
 use Rattle.wire.specs.Read.{read-event}
 
 -- lengths that a number of eight bytes can say
@@ -57,6 +57,10 @@ Round-trip = (e : Event) → Writable e → read-event (write-event e) ≡ e
 -- so no two events have the same bytes
 abbrev pub Injective : Type 0
 Injective = (e d : Event) → Writable e → Writable d → write-event e ≡ write-event d → e ≡ d
+
+-- what is written is bytes
+abbrev pub Written-is-bytes : Type 0
+Written-is-bytes = (e : Event) → Writable e → bytes (write-event e) ≡ true
 
 -- and bytes that are read as an event are that event's
 abbrev pub Written-back : Type 0

@@ -87,7 +87,8 @@ read-append bs =
 unfoldable pub read-message : List ℕ → Read Message
 read-message [] = stuck 0
 read-message (b ∷ bs) =
-    pick (eqb b 0) (and-then (read-number bs) (λ t r. and-then (read-number r) (λ i y. and-then (read-number y) (λ u z. got (ask-vote t i u) z))))
+    pick (eqb b 0)
+    (and-then (read-number bs) (λ t r. and-then (read-number r) (λ i y. and-then (read-number y) (λ u z. got (ask-vote t i u) z))))
     (pick (eqb b 1) (and-then (read-number bs) (λ t r. and-then (read-bool r) (λ ok z. got (vote t ok) z)))
     (pick (eqb b 2) (read-append bs)
     (pick (eqb b 3)
@@ -99,7 +100,8 @@ unfoldable pub read-front : List ℕ → Read Event
 read-front [] = stuck 0
 read-front (b ∷ bs) =
     pick (eqb b 0) (got timeout bs)
-    (pick (eqb b 1) (and-then (read-number bs) (λ c r. and-then (read-number r) (λ k y. and-then (read-command y) (λ x z. got (request c k x) z))))
+    (pick (eqb b 1)
+    (and-then (read-number bs) (λ c r. and-then (read-number r) (λ k y. and-then (read-command y) (λ x z. got (request c k x) z))))
     (pick (eqb b 2) (and-then (read-byte bs) (λ h r. and-then (read-message r) (λ m z. got (comes h m) z)))
     (pick (eqb b 3) (got restart bs) (bad (b ∷ bs)))))
 
@@ -126,8 +128,21 @@ read-saids zero bs = got [] bs
 read-saids (suc n) bs = and-then (read-said bs) (λ s r. and-then (read-saids n r) (λ ss z. got (s ∷ ss) z))
 
 unfoldable pub read-letter : List ℕ → Read Letter
-read-letter bs = and-then (read-byte bs) (λ h r. and-then (read-number r) (λ n y. and-then (read-message y) (λ m z. got (record { to = h; message = m }) z)))
+read-letter bs =
+    and-then (read-byte bs) (λ h r.
+    and-then (read-number r) (λ n y. and-then (read-message y) (λ m z. got (record { to = h; message = m }) z)))
 
 unfoldable pub read-letters : ℕ → List ℕ → Read (List Letter)
 read-letters zero bs = got [] bs
 read-letters (suc n) bs = and-then (read-letter bs) (λ x r. and-then (read-letters n r) (λ xs z. got (x ∷ xs) z))
+
+-- an answer at the front
+unfoldable pub read-answer : List ℕ → Read Answer
+read-answer [] = stuck 0
+read-answer (b ∷ bs) =
+    pick (eqb b 0) (and-then (read-byte bs) (λ j r. and-then (read-number r) (λ k z. got (refused j k) z)))
+    (pick (eqb b 1) (got not-leader bs)
+    (pick (eqb b 2)
+    (and-then (read-number bs) (λ n r.
+    and-then (read-saids n r) (λ ss r. and-then (read-number r) (λ m r. and-then (read-letters m r) (λ ls z. got (does ss ls) z)))))
+    (bad (b ∷ bs))))

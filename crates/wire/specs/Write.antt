@@ -38,7 +38,9 @@ write-command (drop-if k v) = 4 ∷ (write-text k ++ write-text v)
 -- an entry: the server that took it, client, number, index, term, command
 abbrev pub write-entry : Entry → List ℕ
 write-entry e =
-    e .at ∷ (write-number (e .client) ++ (write-number (e .id) ++ (write-number (e .index) ++ (write-number (e .term) ++ write-command (e .command)))))
+    e .at ∷
+    (write-number (e .client) ++ (write-number (e .id) ++
+    (write-number (e .index) ++ (write-number (e .term) ++ write-command (e .command)))))
 
 -- entries in the order of the list, which has the last first
 unfoldable pub write-entries : List Entry → List ℕ

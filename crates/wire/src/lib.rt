@@ -1,2 +1,2 @@
-// The bytes of events, messages and answers: read without copying, written in place.
+// The bytes of events, messages and answers: definitions and what is promised of them. The code is in wire_read and wire_write.
 pub mod promises;

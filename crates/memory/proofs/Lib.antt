@@ -1,0 +1,13 @@
+pub mod Tests
+pub mod Each
+pub mod Parts
+pub mod Back
+pub mod Logs
+pub mod Good
+pub mod Stored
+pub mod Election
+pub mod Replication
+pub mod Doing
+pub mod Events
+pub mod Size
+pub mod Program

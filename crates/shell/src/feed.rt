@@ -1,0 +1,35 @@
+// A buffer between an input that comes in parts and records that want to be whole: what has come stands at its front.
+ghost use mathlib.Core.Path.{_≡_};
+ghost use mathlib.Core.List.{List, _++_};
+ghost use Prim.Native.Nat.{ℕ, _+_, _-_, _≤_};
+ghost use lib.ListN.{length, take, drop};
+ghost use Rattle.std.specs.Of.Vec.{vec-len};
+ghost use Rattle.std.specs.Results.{Cases};
+use std::io;
+use std::io::Read;
+
+// Moves the bytes between two places to the front; behind them nothing changes.
+pub fn keep(buf: &mut [u8], from: usize, to: usize)
+    requires { ⌜ from ≤ to ⌝ ∗ ⌜ to ≤ length (now buf) ⌝ }
+    ensures { λ _. ⌜ now (buf .exit) ≡ take (to - from) (drop from (now (buf .entry))) ++ drop (to - from) (now (buf .entry)) ⌝ }
+{
+    for i in 0..to - from {
+        buf[i] = buf[from + i];
+    }
+}
+
+// Reads what comes into the part that is free, which is made larger if there is none. Says how many bytes are there then.
+pub fn fill(input: &mut impl Read, buf: &mut Vec<u8>, filled: usize) -> io::Result<usize>
+    requires { ⌜ filled ≤ vec-len (now buf) ⌝ }
+    ensures { λ r. ⌜ Cases r (λ n. (filled ≤ n) × (n ≤ vec-len (now (buf .exit)))) (λ _. Unit {0}) ⌝ }
+{
+    let len = buf.len();
+    if filled >= len {
+        buf.resize(len.saturating_mul(2).saturating_add(4_096), 0)?;
+    }
+    if filled >= buf.len() {
+        return Ok(filled);
+    }
+    let more = input.read(&mut buf[filled..])?;
+    Ok(filled + more)
+}

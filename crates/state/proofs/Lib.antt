@@ -1,0 +1,5 @@
+pub mod Laws
+pub mod VoteBits
+pub mod HeadWords
+pub mod PeerWords
+pub mod PutBack

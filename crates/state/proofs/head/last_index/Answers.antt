@@ -1,0 +1,6 @@
+use mathlib.Core.Path.{refl, sym}
+use Rattle.state.proofs.head.last_index.Needs as need
+use Rattle.state.proofs.Laws.{last-is}
+
+pub returns : need.returns
+returns c = record { word = refl; last = sym (last-is (c .args .mem .now)) }

@@ -1,0 +1,18 @@
+use native.Mathlib.Omega.{arith}
+use mathlib.Core.Path.{sym, _∙_}
+use borrow.Author.Tests.{eq-eqb, ne-eqb}
+use Rattle.memory.proofs.Tests.{pick-true, pick-false}
+use Rattle.state.proofs.peers.next_for.Needs as need
+use Rattle.state.proofs.Laws.{long}
+use Rattle.state.proofs.PeerWords.{next-is}
+
+pub index-mem-h : need.index-mem-h
+index-mem-h c = let z = long (c .args .mem .now) (c .pre .held) in omega arith
+
+pub returns-then-next-eq0 : need.returns-then-next-eq0
+returns-then-next-eq0 c =
+    sym (next-is (c .args .mem .now) (c .args .h) (c .pre .held) (c .pre .here) ∙ pick-true _ _ _ (eq-eqb _ 0 (c .if-next-eq0 .taken)))
+
+pub returns-else-next-eq0 : need.returns-else-next-eq0
+returns-else-next-eq0 c =
+    sym (next-is (c .args .mem .now) (c .args .h) (c .pre .held) (c .pre .here) ∙ pick-false _ _ _ (ne-eqb _ 0 (c .if-next-eq0 .left)))
