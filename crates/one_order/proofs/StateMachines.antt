@@ -16,8 +16,7 @@ use Rattle.one_order.proofs.Applying.{made-by-none, Clients-below}
 use Rattle.one_order.proofs.Due.{above-applied}
 use Rattle.one_order.proofs.Events.{Applied, Tells, event-applies}
 use Rattle.one_order.proofs.Runs.{Run, Moment, runs-by, later-by, says-so, one-later, world-then, run-then}
-use Rattle.one_order.proofs.Agreement.{log-contiguous, agree-ever}
-use Rattle.one_order.proofs.Committed.{committed-stays}
+use Rattle.one_order.proofs.Agreement.{log-contiguous, agree-ever, commits-up, committed-stays}
 use Rattle.one_order.proofs.Asked.{clients-below}
 
 -- One happening: what `event-applies` asks of the log is so, since what is committed stays in it.
@@ -32,10 +31,11 @@ module _ {f : Program} {g : Group} {w : World} {i : ℕ} {e : Event} (m : Moment
       let s : State = at-server g w i in
       subst (λ a. Applied (g .clients) now × Tells now a × (s .applied ≤ now .applied)) (sym (says-so m))
       (subst
-      (λ (y : State). Contiguous (y .log) → Clients-below (g .clients) (y .log)
+      (λ (y : State). s .commit ≤ y .commit → Contiguous (y .log) → Clients-below (g .clients) (y .log)
       → up-to (s .applied) (y .log) ≡ up-to (s .applied) (s .log)
       → Applied (g .clients) y × Tells y (answer (limits g i) s e) × (s .applied ≤ y .applied))
-      (sym (here f g w i e)) (event-applies (g .clients) (limits g i) s was e) (log-contiguous (m .new) i) (clients-below (m .new) i)
+      (sym (here f g w i e)) (event-applies (g .clients) (limits g i) s was e)
+      (commits-up (m .new) w (one-later f g w i e) i) (log-contiguous (m .new) i) (clients-below (m .new) i)
       (sym (committed-stays (m .new) w (one-later f g w i e) i (s .applied) (was .low))))
 
 -- AT EVERY MOMENT
