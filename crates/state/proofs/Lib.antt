@@ -3,3 +3,4 @@ pub mod VoteBits
 pub mod HeadWords
 pub mod PeerWords
 pub mod PutBack
+pub mod Sessions
