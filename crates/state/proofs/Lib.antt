@@ -4,3 +4,4 @@ pub mod HeadWords
 pub mod PeerWords
 pub mod PutBack
 pub mod Sessions
+pub mod Holding
