@@ -1,5 +1,7 @@
 // What a server answers to events that need no state: refusals, and to a client that it doesn't lead, which is true of a server
 // that was just opened.
+pub mod records;
+
 ghost use mathlib.Core.Bool.{true, false};
 ghost use mathlib.Core.Path.{_≡_};
 ghost use Prim.Native.Nat.{ℕ, _≤_};
