@@ -2,12 +2,13 @@
 ghost use mathlib.Core.Path.{_≡_};
 ghost use Prim.Native.Nat.{ℕ, _<_, _≤_};
 ghost use lib.ListN.{length};
-ghost use Rattle.servers.specs.Store.{get, put, remove, swap, drop-if};
+ghost use Rattle.servers.specs.Store.{get, put, remove, swap, drop-if, look};
 ghost use Rattle.texts.specs.Words.{All, text-in, perhaps-in};
 ghost use Rattle.texts.specs.Means.{perhaps-of};
 ghost use Rattle.store.specs.Region.{capacity, items-of};
-ghost use Rattle.store.specs.Calls.{Of-text, Of-perhaps, Ready, Does};
+ghost use Rattle.store.specs.Calls.{Held, Of-text, Of-perhaps, Ready, Does, text-of-words};
 use crate::commands;
+use crate::find;
 use crate::reply::tell_none;
 use crate::reply::tell_text;
 
@@ -42,6 +43,15 @@ fn perhaps_words(text: Option<&[u8]>) -> [u64; 33]
         None => tell_none(&mut words),
     }
     words
+}
+
+// The text of a name, in words, if there is one.
+pub fn look_up<'a>(region: &'a [u64], name: &[u8]) -> Option<&'a [u64]>
+    requires held { ⌜ Held (now region) ⌝ }
+    requires name { ⌜ length (now name) ≤ 64 ⌝ }
+    ensures { λ r. ⌜ text-of-words r ≡ look (now (name .entry)) (items-of (now (region .entry))) ⌝ }
+{
+    find::look_up(region, &name_words(name))
 }
 
 pub fn do_get(region: &[u64], name: &[u8], after: &mut [u64], before: &mut [u64])

@@ -47,7 +47,7 @@ pub fn do_put(region: &mut [u64], name: &[u64], text: &[u64], after: &mut [u64],
 {
     let spot = find_before(region, name, before);
     put_item(region, spot, name, text);
-    tell_text(after, text);
+    tell_text(after, text); // whatever there was
 }
 
 pub fn do_remove(region: &mut [u64], name: &[u64], after: &mut [u64], before: &mut [u64])
