@@ -67,7 +67,8 @@ pub fn do_put(region: &mut [u64], name: &[u8], text: &[u8], after: &mut [u64], b
     requires room { ⌜ length (items-of (now region)) < capacity (now region) ⌝ }
     requires name { ⌜ length (now name) ≤ 64 ⌝ }
     requires text { ⌜ length (now text) ≤ 256 ⌝ }
-    ensures { λ _. ⌜ Does (put (now (name .entry)) (now (text .entry))) (now (region .entry)) (now (region .exit)) (now (after .exit)) (now (before .exit)) ⌝ }
+    ensures { λ _. ⌜ Does (put (now (name .entry)) (now (text .entry))) (now (region .entry)) (now (region .exit)) (now (after .exit))
+        (now (before .exit)) ⌝ }
 {
     commands::do_put(region, &name_words(name), &text_words(text), after, before);
 }
@@ -75,7 +76,8 @@ pub fn do_put(region: &mut [u64], name: &[u8], text: &[u8], after: &mut [u64], b
 pub fn do_remove(region: &mut [u64], name: &[u8], after: &mut [u64], before: &mut [u64])
     requires ready { ⌜ Ready (now region) (now after) (now before) ⌝ }
     requires name { ⌜ length (now name) ≤ 64 ⌝ }
-    ensures { λ _. ⌜ Does (remove (now (name .entry))) (now (region .entry)) (now (region .exit)) (now (after .exit)) (now (before .exit)) ⌝ }
+    ensures { λ _. ⌜ Does (remove (now (name .entry))) (now (region .entry)) (now (region .exit)) (now (after .exit)) (now
+        (before .exit)) ⌝ }
 {
     commands::do_remove(region, &name_words(name), after, before);
 }
@@ -93,7 +95,8 @@ pub fn do_swap(
     requires name { ⌜ length (now name) ≤ 64 ⌝ }
     requires expected { ⌜ All (λ t. length t ≤ 256) (perhaps-of expected) ⌝ }
     requires text { ⌜ length (now text) ≤ 256 ⌝ }
-    ensures { λ _. ⌜ Does (swap (now (name .entry)) (perhaps-of (expected .entry)) (now (text .entry))) (now (region .entry)) (now (region .exit)) (now (after .exit)) (now (before .exit)) ⌝ }
+    ensures { λ _. ⌜ Does (swap (now (name .entry)) (perhaps-of (expected .entry)) (now (text .entry))) (now (region .entry)) (now
+        (region .exit)) (now (after .exit)) (now (before .exit)) ⌝ }
 {
     commands::do_swap(
         region,
@@ -115,7 +118,8 @@ pub fn do_drop_if(
     requires ready { ⌜ Ready (now region) (now after) (now before) ⌝ }
     requires name { ⌜ length (now name) ≤ 64 ⌝ }
     requires text { ⌜ length (now text) ≤ 256 ⌝ }
-    ensures { λ _. ⌜ Does (drop-if (now (name .entry)) (now (text .entry))) (now (region .entry)) (now (region .exit)) (now (after .exit)) (now (before .exit)) ⌝ }
+    ensures { λ _. ⌜ Does (drop-if (now (name .entry)) (now (text .entry))) (now (region .entry)) (now (region .exit)) (now
+        (after .exit)) (now (before .exit)) ⌝ }
 {
     commands::do_drop_if(region, &name_words(name), &text_words(text), after, before);
 }
