@@ -5,7 +5,9 @@ use mathlib.Core.List.{List, [], _∷_, _++_, map}
 use Prim.Native.Nat.{ℕ, zero, suc, _+_, _*_, _-_, _<_, _≤_}
 use lib.ListN.{length, getD, set, take, drop}
 use native.Mathlib.Omega.{arith}
-use Rattle.std.proofs.shelf.Lists.{append-assoc, append-nil, map-append, length-append, length-take-le, length-drop, length-map, take-at, drop-at, take-all, drop-drop, drop-more, drop-take, take-append-drop, take-take, set-at, getD-set-same, getD-set-other}
+use Rattle.std.proofs.shelf.Lists.{append-assoc, append-nil, map-append, length-append, length-take-le, length-drop, length-map, take-at}
+use Rattle.std.proofs.shelf.Lists.{drop-at, take-all, drop-drop, drop-more, drop-take, take-append-drop, take-take, set-at, getD-set-same}
+use Rattle.std.proofs.shelf.Lists.{getD-set-other}
 use Rattle.servers.specs.Store.{Item, Store}
 use Rattle.texts.specs.Words.{All}
 use Rattle.store.specs.Region.{blank, items-at, opened, closed, Apart, numbers}

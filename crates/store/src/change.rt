@@ -24,7 +24,8 @@ pub fn replace(region: &mut [u64], p: usize, text: &[u64])
     requires held { ⌜ Held (now region) ⌝ }
     requires within { ⌜ p < count (now region) ⌝ }
     requires text { ⌜ Of-text 32 (now text) ⌝ }
-    ensures { λ _. ⌜ now (region .exit) ≡ replaced-at p (getD (items-of (now (region .entry))) p blank .key) (text-in (now (text .entry))) (now (region .entry)) ⌝ }
+    ensures { λ _. ⌜ now (region .exit) ≡ replaced-at p (getD (items-of (now (region .entry))) p blank .key) (text-in (now
+        (text .entry))) (now (region .entry)) ⌝ }
 {
     let at = row_at(region, p);
     region[at + NAME..at + ROW].copy_from_slice(text);
@@ -46,7 +47,8 @@ pub fn insert(region: &mut [u64], p: usize, name: &[u64], text: &[u64])
     requires within { ⌜ p ≤ count (now region) ⌝ }
     requires name { ⌜ Of-text 8 (now name) ⌝ }
     requires text { ⌜ Of-text 32 (now text) ⌝ }
-    ensures { λ _. ⌜ now (region .exit) ≡ inserted-at p (text-in (now (name .entry))) (text-in (now (text .entry))) (now (region .entry)) ⌝ }
+    ensures { λ _. ⌜ now (region .exit) ≡ inserted-at p (text-in (now (name .entry))) (text-in (now (text .entry))) (now
+        (region .entry)) ⌝ }
 {
     let c = region[0] as usize;
     let n = region[1] as usize;
