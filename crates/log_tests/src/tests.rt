@@ -1,7 +1,8 @@
 // Each test writes entries as the bytes of a message, has the log take them, and looks at the words.
 ghost use mathlib.Core.Path.{_≡_};
-ghost use Prim.Native.Nat.{_*_, _+_, _^_, _≤_};
-ghost use lib.ListN.{length};
+ghost use Prim.Native.Nat.{_*_, _+_, _<_, _^_, _≤_};
+ghost use lib.ListN.{length, replicate};
+ghost use Rattle.log_tests.specs.Held.{Held};
 use log::append::push;
 use log::find::has_new;
 use log::find::has_term;
@@ -11,6 +12,8 @@ use log::find::term_at;
 use log::find::term_or_zero;
 use log::replace::replace;
 use log::row::Numbers;
+use log::size::entries_size;
+use log::write::write_entries;
 use std::test::*;
 use wire_read::message::read_entries;
 use wire_read::parts::Command;
@@ -174,4 +177,66 @@ fn longest_command() -> Result<(), Fail> {
     );
     check_eq(region[84], 2).note("a removal")?;
     check(zero(&region[85..160])).note("of an empty name: all words are zero")
+}
+
+// One entry more, of a name of 16 bytes and a text of 64.
+fn pushed(region: &mut [u64], len: usize, term: u64, b: &[u8])
+    requires held { ⌜ Held len (now region) ⌝ }
+    requires room { ⌜ len < 4 ⌝ }
+    requires bytes { ⌜ now b ≡ replicate 80 97 ⌝ }
+    ensures { λ _. ⌜ Held (len + 1) (now (region .exit)) ⌝ }
+{
+    let numbers = Numbers {
+        term,
+        server: 2,
+        client: 1,
+        number: 6,
+    };
+    push(
+        region,
+        len,
+        numbers,
+        b,
+        Command::Put(Text { at: 0, len: 16 }, Text { at: 16, len: 64 }),
+    );
+}
+
+// The entries above an index as bytes, or none where they have no room.
+fn sent(out: &mut [u8], region: &[u64], len: usize, index: usize) -> usize
+    requires held { ⌜ Held len (now region) ⌝ }
+    requires room { ⌜ len ≤ 4 ⌝ }
+{
+    if entries_size(region, len, index) > out.len() {
+        return 0;
+    }
+    write_entries(out, 0, region, len, index)
+}
+
+// Three entries.
+fn filled(region: &mut [u64], b: &[u8])
+    requires region { ⌜ now region ≡ replicate 320 0 ⌝ }
+    requires bytes { ⌜ now b ≡ replicate 80 97 ⌝ }
+    ensures { λ _. ⌜ Held 3 (now (region .exit)) ⌝ }
+{
+    pushed(region, 0, 1, b);
+    pushed(region, 1, 1, b);
+    pushed(region, 2, 5, b);
+}
+
+#[test]
+fn sent_and_taken() -> Result<(), Fail> {
+    let mut region = [0u64; 320];
+    let mut bytes = [0u8; 400];
+    filled(&mut region, &[97u8; 80]);
+    let none = sent(&mut bytes, &region, 3, 3);
+    check_eq(none, 0).note("nothing stands above the last")?;
+    let all = sent(&mut bytes, &region, 3, 0);
+    check_eq(all, 390).note("130 bytes each")?;
+    check_eq(bytes[17], 3).note("the last first: its index")?;
+    check_eq(bytes[25], 5).note("and its term")?;
+    let mut other = [0u64; 320];
+    check_eq(replaced(&mut other, 0, 0, &bytes, 3), 3)?;
+    check(other == region).note("another log that takes them is the same")?;
+    check_eq(sent(&mut bytes, &region, 3, 2), 130).note("one above the second")?;
+    check_eq(bytes[17], 3)
 }
