@@ -1,0 +1,3 @@
+pub mod Put
+pub mod Heads
+pub mod Answers
