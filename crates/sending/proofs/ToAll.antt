@@ -1,0 +1,90 @@
+-- Letters to all others, one after the other.
+use native.Mathlib.Omega.{arith}
+use mathlib.Core.Path.{_≡_, refl, sym, ap, _∙_}
+use mathlib.Core.Logic.{_≢_, inl, inr}
+use mathlib.Core.Bool.{Bool, true, false}
+use mathlib.Core.List.{List, [], _∷_, _++_}
+use Prim.Native.Nat.{ℕ, zero, suc, _+_, _-_, _≤_, _<_}
+use lib.Dec.{eqb}
+use lib.ListN.{length}
+use Rattle.std.proofs.shelf.Lists.{append-assoc, append-nil, length-append}
+use Rattle.std.proofs.shelf.Tests.{cases-eq, cases-lt, eq-eqb, ne-eqb}
+use Rattle.servers.specs.Store.{pick}
+use Rattle.servers.specs.Server.{Message, Letter, to-others}
+use Rattle.wire.specs.Write.{write-letter, write-letters}
+use Rattle.wire_write.specs.Put.{Writes}
+use Rattle.sending.specs.Letters.{post}
+
+letters-append : (xs ys : List Letter) → write-letters (xs ++ ys) ≡ write-letters xs ++ write-letters ys
+unfolding write-letters
+letters-append [] ys = refl
+letters-append (x ∷ xs) ys = rw (letters-append xs ys) (sym (append-assoc (write-letter x) (write-letters xs) (write-letters ys)))
+
+-- the bytes of the letters to the first n servers, but for m
+abbrev pub sent-bytes : ℕ → ℕ → (ℕ → Message) → List ℕ
+sent-bytes n m f = write-letters (to-others n m f)
+
+pub sent-start : {at r : ℕ} {xs ys : List ℕ} (m : ℕ) (f : ℕ → Message) → Writes at [] xs ys r → Writes at (sent-bytes 0 m f) xs ys r
+unfolding to-others write-letters
+sent-start m f w = w
+
+-- one server more
+sent-step :
+    (n m : ℕ) (f : ℕ → Message)
+    → sent-bytes (n + 1) m f ≡ sent-bytes n m f ++ write-letters (pick (eqb n m) [] (record { to = n; message = f n } ∷ []))
+unfolding to-others
+sent-step n m f =
+    let z : n + 1 ≡ suc n = omega arith in
+    rw z (letters-append (to-others n m f) (pick (eqb n m) [] (record { to = n; message = f n } ∷ [])))
+
+pub sent-more : (n m : ℕ) (f : ℕ → Message) → n ≢ m → sent-bytes n m f ++ post n (f n) ≡ sent-bytes (n + 1) m f
+unfolding write-letters
+sent-more n m f h =
+    sym (sent-step n m f
+    ∙ (ap (λ (b : Bool). sent-bytes n m f ++ write-letters (pick b [] (record { to = n; message = f n } ∷ []))) (ne-eqb n m h)
+    ∙ ap (λ (z : List ℕ). sent-bytes n m f ++ z) (append-nil (post n (f n)))))
+
+pub sent-none : (n m : ℕ) (f : ℕ → Message) → n ≡ m → sent-bytes n m f ≡ sent-bytes (n + 1) m f
+unfolding write-letters
+sent-none n m f h =
+    sym (sent-step n m f
+    ∙ (ap (λ (b : Bool). sent-bytes n m f ++ write-letters (pick b [] (record { to = n; message = f n } ∷ []))) (eq-eqb n m h)
+    ∙ append-nil (sent-bytes n m f)))
+
+-- those to fewer are no longer
+pub sent-fewer : (n k m : ℕ) (f : ℕ → Message) → n ≤ k → length (sent-bytes n m f) ≤ length (sent-bytes k m f)
+sent-fewer n zero m f h = let e : n ≡ 0 = omega arith in rw e (omega arith)
+sent-fewer n (suc k) m f h =
+    elim (cases-lt k n) [
+      | inl q ↦ let e : n ≡ suc k = omega arith in rw e (omega arith)
+      | inr q ↦
+          let ih = sent-fewer n k m f q in
+          let z : k + 1 ≡ suc k = omega arith in
+          let e = ap length (sent-step k m f) in
+          let l = length-append (sent-bytes k m f) (write-letters (pick (eqb k m) [] (record { to = k; message = f k } ∷ []))) in
+          rw (← z) (omega arith)
+    ]
+
+-- so many letters
+all-of : (n m : ℕ) (f : ℕ → Message) → n ≤ m → length (to-others n m f) ≡ n
+unfolding to-others
+all-of zero m f h = refl
+all-of (suc n) m f h =
+    let ih = all-of n m f (omega arith) in
+    let l = length-append (to-others n m f) (record { to = n; message = f n } ∷ []) in
+    rw (ne-eqb n m (λ z. omega arith)) (omega arith)
+
+pub how-many : (n m : ℕ) (f : ℕ → Message) → m < n → n - 1 ≡ length (to-others n m f)
+unfolding to-others
+how-many zero m f h = absurd (omega arith)
+how-many (suc n) m f h =
+    elim (cases-eq n m) [
+      | inl q ↦
+          let a = all-of n m f (omega arith) in
+          let l = append-nil (to-others n m f) in
+          rw (eq-eqb n m q, l) (omega arith)
+      | inr q ↦
+          let ih = how-many n m f (omega arith) in
+          let l = length-append (to-others n m f) (record { to = n; message = f n } ∷ []) in
+          rw (ne-eqb n m q) (omega arith)
+    ]
