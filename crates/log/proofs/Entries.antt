@@ -11,7 +11,7 @@ use Rattle.log.specs.Rows.{row-in, log-in, command-in}
 use Rattle.log.specs.Places.{row-place, row-at, entry-in}
 use Rattle.log.specs.declared.row.Numbers.{Numbers}
 use Rattle.log.specs.Numbers.{numbers-in}
-use Rattle.log.specs.Bytes.{Puts, Sound, Sound-row, write-numbers}
+use Rattle.log.specs.Bytes.{Sound, Sound-row, write-numbers}
 use Rattle.log.proofs.Places.{above-in, above-in-none}
 use Rattle.log.proofs.Found.{row-part}
 use Rattle.log.proofs.Written.{length-part}

@@ -22,7 +22,8 @@ pub command-part : (at i : ℕ) (ws : List ℕ) → at ≡ row-place i → take 
 command-part at i ws e =
     let z : at + 80 - (at + 4) ≡ 76 = omega arith in
     ap (λ (k : ℕ). take k (drop (at + 4) ws)) z
-    ∙ (ap (λ (k : ℕ). take 76 (drop (k + 4) ws)) e ∙ (ap (take 76) (sym (drop-drop 4 (row-place i) ws)) ∙ sym (drop-take 4 76 (drop (row-place i) ws))))
+    ∙ (ap (λ (k : ℕ). take 76 (drop (k + 4) ws)) e
+    ∙ (ap (take 76) (sym (drop-drop 4 (row-place i) ws)) ∙ sym (drop-take 4 76 (drop (row-place i) ws))))
 
 pub numbers-read : (i : ℕ) (ws : List ℕ) → numbers-in (row-at i ws) ≡ numbers-of (entry-in i ws)
 unfolding row-in

@@ -4,7 +4,9 @@ pub mod Rows
 pub mod Regions
 pub mod Found
 pub mod Written
-pub mod Puts
+pub mod Rooms
 pub mod Commands
 pub mod Entries
 pub mod Sizes
+pub mod Sound
+pub mod Replaced

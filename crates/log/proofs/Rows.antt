@@ -113,7 +113,7 @@ all-both : {A : Type 0} (P : A → Type 0) (xs ys : List A) → All P xs → All
 all-both P [] ys h k = k
 all-both P (x ∷ xs) ys h k = (h .0, all-both P xs ys (h .1) k)
 
-tag-low : (x : Command) → tag x < 5
+pub tag-low : (x : Command) → tag x < 5
 tag-low (get k) = omega arith
 tag-low (put k v) = omega arith
 tag-low (remove k) = omega arith

@@ -15,7 +15,8 @@ use Rattle.log.specs.Rows.{row-in, command-in}
 use Rattle.log.specs.Bytes.{Sound-command, Sound-row, write-expected, write-last, expected-size, last-size}
 use Rattle.log.proofs.Tests.{bool-by, pick-by}
 use Rattle.log.proofs.Written.{length-part}
-use Rattle.log.proofs.Puts.{length-numbers, length-text, length-text-in, length-perhaps}
+use Rattle.wire_write.proofs.Texts.{length-text, length-text-in, length-perhaps}
+use Rattle.log.proofs.Rooms.{length-numbers}
 use Rattle.log.proofs.Commands.{first-of, name-bytes, expected-bytes, last-bytes, by-parts}
 use Rattle.log.proofs.Entries.{numbers-bytes, entry-bytes}
 
@@ -36,7 +37,8 @@ last-long n ws l h =
 
 -- the bytes of a command, by the first words of its parts
 pub command-long : (ws : List ℕ) → length ws ≡ 76 → Sound-command ws
-    → length (write-command (command-in ws)) ≡ 9 + getD ws 1 0 + (expected-size (getD ws 0 0) (getD ws 10 0) + last-size (getD ws 0 0) (getD ws 43 0))
+    → length (write-command (command-in ws))
+    ≡ 9 + getD ws 1 0 + (expected-size (getD ws 0 0) (getD ws 10 0) + last-size (getD ws 0 0) (getD ws 43 0))
 command-long ws size s =
     let k = s .name in let e = s .expected in let v = s .text in
     let f₁ = first-of 1 9 ws (omega arith) in

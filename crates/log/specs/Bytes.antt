@@ -1,22 +1,12 @@
--- Bytes put at a place of a slice, and rows whose numbers can be written as bytes. Assumes nothing: these are definitions.
+-- The bytes of an entry by its parts, and rows that can be written as bytes. Assumes nothing: these are definitions.
 use mathlib.Core.Bool.{Bool, true, false, not, _||_}
 use mathlib.Core.List.{List, [], _∷_, _++_}
-use mathlib.Core.Path.{_≡_}
 use Prim.Native.Nat.{ℕ, _+_, _≤_, _<_}
 use lib.Dec.{eqb}
-use lib.ListN.{length, getD, take, drop}
+use lib.ListN.{getD, drop}
 use Rattle.servers.specs.Store.{pick, Perhaps}
 use Rattle.wire.specs.Write.{write-number, write-text, write-perhaps}
 use Rattle.log.specs.Places.{row-at}
-
--- these bytes from that place on, and all else as it was
-abbrev pub put-at : ℕ → List ℕ → List ℕ → List ℕ
-put-at at bs out = take at out ++ (bs ++ drop (at + length bs) out)
-
--- what a writer promises: just these bytes were put at the place, and the next place is told
-pub record Puts (out : List ℕ) (at : ℕ) (bs : List ℕ) (after : List ℕ) (next : ℕ) : Type 0 where
-  pub bytes : after ≡ put-at at bs out
-  pub place : next ≡ at + length bs
 
 -- the numbers of an entry
 abbrev pub write-numbers : ℕ → ℕ → ℕ → ℕ → ℕ → List ℕ

@@ -5,6 +5,10 @@ use lib.ListN.{take, drop}
 use Rattle.servers.specs.Server.{Entry}
 use Rattle.log.specs.Rows.{row-in}
 
+-- entries, the last first
+abbrev pub Log : Type 0
+Log = List Entry
+
 -- the one function from an index, from 1, to the first word of its row
 abbrev pub row-place : ℕ → ℕ
 row-place i = 80 * (i - 1)

@@ -26,7 +26,7 @@ fn bytes_of(b: &[u8], text: Text) -> &[u8]
 }
 
 // A text that is expected to be there, or that none is.
-fn write_expected(words: &mut [u64], b: &[u8], expected: Option<Text>)
+fn pack_expected(words: &mut [u64], b: &[u8], expected: Option<Text>)
     requires size { ⌜ length (now words) ≡ 33 ⌝ }
     requires within { ⌜ Perhaps-in (now b) expected ⌝ }
     ensures { λ _. ⌜ now (words .exit) ≡ perhaps-words 32 (perhaps-of (now (b .entry)) expected) ⌝ }
@@ -37,14 +37,7 @@ fn write_expected(words: &mut [u64], b: &[u8], expected: Option<Text>)
     }
 }
 
-fn write_parts(
-    words: &mut [u64],
-    tag: u64,
-    b: &[u8],
-    name: Text,
-    expected: Option<Text>,
-    text: Text,
-)
+fn pack_parts(words: &mut [u64], tag: u64, b: &[u8], name: Text, expected: Option<Text>, text: Text)
     requires size { ⌜ length (now words) ≡ 76 ⌝ }
     requires name { ⌜ Text-in (now b) name ⌝ }
     requires expected { ⌜ Perhaps-in (now b) expected ⌝ }
@@ -54,20 +47,20 @@ fn write_parts(
 {
     words[0] = tag;
     write_text(&mut words[1..10], bytes_of(b, name));
-    write_expected(&mut words[10..43], b, expected);
+    pack_expected(&mut words[10..43], b, expected);
     write_text(&mut words[43..76], bytes_of(b, text));
 }
 
-pub fn write_command(words: &mut [u64], b: &[u8], command: Command)
+pub fn pack_command(words: &mut [u64], b: &[u8], command: Command)
     requires size { ⌜ length (now words) ≡ 76 ⌝ }
     requires within { ⌜ Command-in (now b) command ⌝ }
     ensures { λ _. ⌜ now (words .exit) ≡ command-words (command-of (now (b .entry)) command) ⌝ }
 {
     match command {
-        Command::Get(name) => write_parts(words, 0, b, name, None, NOTHING),
-        Command::Put(name, text) => write_parts(words, 1, b, name, None, text),
-        Command::Remove(name) => write_parts(words, 2, b, name, None, NOTHING),
-        Command::Swap(name, expected, text) => write_parts(words, 3, b, name, expected, text),
-        Command::DropIf(name, text) => write_parts(words, 4, b, name, None, text),
+        Command::Get(name) => pack_parts(words, 0, b, name, None, NOTHING),
+        Command::Put(name, text) => pack_parts(words, 1, b, name, None, text),
+        Command::Remove(name) => pack_parts(words, 2, b, name, None, NOTHING),
+        Command::Swap(name, expected, text) => pack_parts(words, 3, b, name, expected, text),
+        Command::DropIf(name, text) => pack_parts(words, 4, b, name, None, text),
     }
 }

@@ -3,7 +3,8 @@
 pub mod append;
 pub mod command;
 pub mod find;
-pub mod put;
+pub mod promises;
+pub mod replace;
 pub mod row;
 pub mod size;
 pub mod write;

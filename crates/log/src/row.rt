@@ -7,7 +7,7 @@ ghost use Rattle.wire_read.specs.Means.{command-of, Command-in};
 ghost use Rattle.log.specs.Rows.{row-words};
 ghost use Rattle.log.specs.Places.{row-place};
 ghost use Rattle.log.specs.Numbers.{numbers-in, entry-by};
-use crate::command::write_command;
+use crate::command::pack_command;
 use wire_read::parts::Command;
 
 // How many words a row has.
@@ -50,18 +50,18 @@ impl Numbers {
 // The first word of the row of an index: the only place that says where rows stand.
 pub fn place(index: usize) -> usize
     requires some { ⌜ 0 < index ⌝ }
-    requires low { ⌜ index ≤ 2 ^ 32 ⌝ }
+    requires low { ⌜ index ≤ 2 ^ 40 ⌝ }
     ensures { λ r. ⌜ r ≡ row-place index ⌝ }
 {
     ROW * (index - 1)
 }
 
 // An entry into its row, the command from the bytes that it was read from. Whatever its index is, the row is the same.
-pub fn write_row(row: &mut [u64], numbers: Numbers, b: &[u8], command: Command)
+pub fn pack_row(row: &mut [u64], numbers: Numbers, b: &[u8], command: Command)
     requires size { ⌜ length (now row) ≡ 80 ⌝ }
     requires within { ⌜ Command-in (now b) command ⌝ }
     ensures { λ _. ⌜ ((i : ℕ) → now (row .exit) ≡ row-words (entry-by numbers i (command-of (now (b .entry)) command))) ⌝ }
 {
     numbers.write(row);
-    write_command(&mut row[4..80], b, command);
+    pack_command(&mut row[4..80], b, command);
 }

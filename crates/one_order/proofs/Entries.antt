@@ -1,30 +1,26 @@
--- Entries come from commands, by letters and logs.
-use mathlib.Core.Path.{_≡_, refl, sym, ap, subst, _∙_}
-use mathlib.Core.Logic.{_⊎_, inl, inr, _≢_}
-use mathlib.Core.Bool.{Bool, true, false, not, _&&_, _||_}
-use mathlib.Core.List.{List, [], _∷_, _++_, append-nil}
-use Prim.Native.Nat.{ℕ, zero, suc, _+_, _*_, _-_, _/_, _≤_, _<_}
-use native.Mathlib.Omega.{arith}
-use lib.Dec.{ltb, leb, eqb}
-use lib.ListN.{length}
-use Rattle.servers.specs.Store.{pick, Command}
-use Rattle.servers.specs.Server.{Entry, Limits, State, Letter, Message, ask-vote, vote, append, appended, Event, timeout, request, comes, restart, garbled, Answer, refused, not-leader, does, up-to, above, heard, back, append-reply, hears-vote, hears-appended, appends, after-append, asked, wants, with-term, with-voted, with-log, following, advanced, with-request, with-send, restarted, first-step, first-letters, settles, sends-now, sent-now, finished, after-all, do-all, do-one, dues, is-new, ends-there, is-request, stepped, doing, tell-all, after, answer, turned, place, last-index, last-term, to-others, to-server, next-for, entry-at, term-is, term-of, has-new, with-match, with-next, with-commit, settled-to, voted-on, grants, at-least, at-most, nth}
+-- WHERE ENTRIES COME FROM: a server makes an entry of a request only; otherwise logs and letters pass on what they have. So what holds
+-- of every entry in the logs and letters so far, and of every entry that a request can make, holds of every entry after an event.
+-- P is any property of entries.
+use mathlib.Core.Path.{_≡_, sym, subst}
+use mathlib.Core.Logic.{_⊎_, inl, inr}
+use mathlib.Core.Bool.{not, _&&_, _||_}
+use mathlib.Core.List.{List, [], _++_}
+use Prim.Native.Nat.{ℕ, _-_}
+use lib.Dec.{ltb, eqb}
+use Rattle.servers.specs.Server.{Entry, Limits, State, Letter, Message, ask-vote, vote, append, appended}
+use Rattle.servers.specs.Server.{Event, timeout, request, comes, restart, garbled, Answer, not-leader, does}
+use Rattle.servers.specs.Server.{up-to, entry-at, term-is, next-for, back, to-server, first-step, first-letters, settles}
+use Rattle.servers.specs.Server.{sends-now, sent-now, after-all, ends-there, is-request, stepped, doing, turned, after, answer}
 use Rattle.servers.specs.World.{Sent, In, from, letters}
 use Rattle.std.proofs.shelf.Tests.{eqb-true}
-use Rattle.safety.proofs.Tests.{bool-by, pick-by}
-use Rattle.safety.proofs.Moves.{in-either, from-append, all-others}
-use Rattle.safety.proofs.Quiet.{all-one}
-use Rattle.safety.proofs.Ghosts.{View, view}
-use Rattle.safety.proofs.Events.{finished-view, sent-view}
+use Rattle.safety.proofs.Tests.{pick-by}
+use Rattle.safety.proofs.Letters.{in-either, from-append, all-one, all-others}
+use Rattle.safety.proofs.Invariant.{View}
+use Rattle.safety.proofs.Unseen.{finished-unseen}
+use Rattle.one_order.proofs.Lists.{All, all-more, all-append, all-up-to, all-above}
+use Rattle.one_order.proofs.Steps.{made-entry, first-by, settles-by}
 
-abbrev pub All : (Entry → Type 0) → List Entry → Type 0
-All P [] = Unit {0}
-All P (e ∷ es) = P e × All P es
-
-pub all-more : (P Q : Entry → Type 0) → ((e : Entry) → P e → Q e) → (l : List Entry) → All P l → All Q l
-all-more P Q f [] a = tt
-all-more P Q f (e ∷ es) a = (f e (a .0), all-more P Q f es (a .1))
-
+-- every entry of a message
 abbrev pub Carries : (Entry → Type 0) → Message → Type 0
 Carries P (ask-vote t i u) = Unit {0}
 Carries P (vote t ok) = Unit {0}
@@ -37,101 +33,86 @@ carries-more P Q f (vote t ok) a = tt
 carries-more P Q f (append t i u es c) a = all-more P Q f es a
 carries-more P Q f (appended t m ok) a = tt
 
-module _ (P : Entry → Type 0) where
-  pub all-append : (xs ys : List Entry) → All P xs → All P ys → All P (xs ++ ys)
-  all-append [] ys a b = b
-  all-append (x ∷ xs) ys a b = (a .0, all-append xs ys (a .1) b)
+module _ (P : Entry → Type 0) (l : Limits) (s : State) where
+  -- every entry that an event can bring
+  abbrev pub Brings : Event → Type 0
+  Brings timeout = Unit {0}
+  Brings (request c k x) = P (made-entry l s c k x)
+  Brings (comes h m) = Carries P m
+  Brings restart = Unit {0}
+  Brings (garbled n) = Unit {0}
 
-  pub all-up-to : (n : ℕ) (l : List Entry) → All P l → All P (up-to n l)
-  unfolding up-to
-  all-up-to n [] a = tt
-  all-up-to n (e ∷ es) a = pick-by (λ y. All P y) (leb (e .index) n) (e ∷ es) (up-to n es) (λ q. a) (λ q. all-up-to n es (a .1))
+  -- LOGS: what is in the log after an event was in the log, in the message, or in the request
 
-  pub all-above : (n : ℕ) (l : List Entry) → All P l → All P (above n l)
-  unfolding above
-  all-above n [] a = tt
-  all-above n (e ∷ es) a = pick-by (λ y. All P y) (ltb n (e .index)) (e ∷ above n es) [] (λ q. (a .0, all-above n es (a .1))) (λ q. tt)
+  first-log : (e : Event) → All P (s .log) → Brings e → All P (first-step l s e .log)
+  first-log e a b =
+      first-by (λ y. All P (y .log)) l s a e (λ c k x q. (subst Brings q b, a))
+      (λ h t i u c es log n q how up. accepted i es log (subst Brings q b) how)
+    where
+      accepted : (i : ℕ) (es log : List Entry) → All P es → (log ≡ es) ⊎ (log ≡ es ++ up-to i (s .log)) → All P log
+      accepted i es log b (inl p) = subst (All P) (sym p) b
+      accepted i es log b (inr p) = subst (All P) (sym p) (all-append P es (up-to i (s .log)) b (all-up-to P i (s .log) a))
 
-  advanced-log : (t : ℕ) (s : State) → All P (s .log) → All P (advanced t s .log)
-  advanced-log t s a = pick-by (λ (y : State). All P (y .log)) (ltb (s .term) t) (with-term t s) s (λ q. a) (λ q. a)
+  all-log : (y : State) → All P (y .log) → All P (after-all l y .log)
+  all-log y a =
+      subst (λ (v : View). All P (v .log)) (sym (finished-unseen (sent-now (settles l y))))
+      (settles-by (λ c. All P (c .log)) l y (λ n up. a))
 
-  after-append-log : (s : State) (h t : ℕ) (es : List Entry) (c : ℕ) (log : List Entry) → All P (s .log) → All P log → All P (after-append s h t es c log .log)
-  after-append-log s h t es c log a b = pick-by (λ (y : State). All P (y .log)) (has-new s es) _ _ (λ q. b) (λ q. advanced-log t s a)
-
-  heard-log : (l : Limits) (s : State) (h : ℕ) (m : Message) → All P (s .log) → Carries P m → All P (heard l s h m .log)
-  heard-log l s h (ask-vote t i u) a c =
-      pick-by (λ (y : State). All P (y .log)) (ltb t (s .term)) s _ (λ q. a) (λ q. pick-by (λ (y : State). All P (y .log)) (grants s h t i u) (with-voted h (advanced t s)) (advanced t s) (λ r. advanced-log t s a) (λ r. advanced-log t s a))
-  heard-log l s h (vote t ok) a c =
-      pick-by (λ (y : State). All P (y .log)) (ltb (s .term) t) (advanced t s) _ (λ q. advanced-log t s a)
-      (λ q. pick-by (λ (y : State). All P (y .log)) (ltb t (s .term)) s _ (λ q. a) (λ q. pick-by (λ (y : State). All P (y .log)) (eqb (s .kind) 1) (voted-on l h ok s) s (λ r. a) (λ r. a)))
-  heard-log l s h (append t i u es c) a b =
-      pick-by (λ (y : State). All P (y .log)) (ltb t (s .term)) s _ (λ q. a)
-      (λ q. pick-by (λ (y : State). All P (y .log)) (eqb i 0) (after-append s h t es c es) _ (λ r. after-append-log s h t es c es a b)
-      (λ r. pick-by (λ (y : State). All P (y .log)) (term-is (entry-at i (s .log)) u) (after-append s h t es c (es ++ up-to i (s .log))) s
-      (λ z. after-append-log s h t es c (es ++ up-to i (s .log)) a (all-append es (up-to i (s .log)) b (all-up-to i (s .log) a))) (λ z. a)))
-  heard-log l s h (appended t i ok) a c =
-      pick-by (λ (y : State). All P (y .log)) (eqb (s .term) t) _ (advanced t s)
-      (λ q. pick-by (λ (y : State). All P (y .log)) ok (with-match h (at-least (nth 0 (s .matches) h) i) (at-least (next-for s h) (suc i)) s) (with-next h (next-for s h - 1) s) (λ r. a) (λ r. a)) (λ q. advanced-log t s a)
-
-  -- what is known of the event
-  abbrev pub Brings : Limits → State → Event → Type 0
-  Brings l s timeout = Unit {0}
-  Brings l s (request c k x) = (i t : ℕ) → P (record { at = l .me; client = c; id = k; index = i; term = t; command = x })
-  Brings l s (comes h m) = Carries P m
-  Brings l s restart = Unit {0}
-  Brings l s (garbled n) = Unit {0}
-
-  first-log : (l : Limits) (s : State) (e : Event) → All P (s .log) → Brings l s e → All P (first-step l s e .log)
-  first-log l s timeout a b = pick-by (λ (y : State). All P (y .log)) (eqb (s .kind) 2) (with-send true s) (wants l s) (λ q. a) (λ q. a)
-  first-log l s (request c k x) a b = pick-by (λ (y : State). All P (y .log)) (eqb (s .kind) 2) (with-request l c k x s) s (λ q. (b (suc (last-index (s .log))) (s .term), a)) (λ q. a)
-  first-log l s (comes h m) a b = heard-log l s h m a b
-  first-log l s restart a b = a
-  first-log l s (garbled n) a b = a
-
-  settles-log : (l : Limits) (s : State) → All P (s .log) → All P (settles l s .log)
-  settles-log l s a = pick-by (λ (y : State). All P (y .log)) (eqb (s .kind) 2) (with-commit (settled-to l s (s .log)) s) s (λ q. a) (λ q. a)
-
-  all-log : (l : Limits) (s : State) → All P (s .log) → All P (after-all l s .log)
-  all-log l s a = subst (λ (y : View). All P (y .log)) (sym (finished-view (sent-now (settles l s)) ∙ sent-view (settles l s))) (settles-log l s a)
-
-  pub after-log : (l : Limits) (s : State) (e : Event) → All P (s .log) → (turned l s e ≡ 0 → Brings l s e) → All P (after l s e .log)
-  after-log l s e a b =
+  pub after-log : (e : Event) → All P (s .log) → (turned l s e ≡ 0 → Brings e) → All P (after l s e .log)
+  after-log e a b =
       pick-by (λ (y : State). All P (y .log)) (eqb (turned l s e) 0) (stepped l s e) s
-      (λ q. pick-by (λ (y : State). All P (y .log)) (ends-there e) (first-step l s e) (after-all l (first-step l s e)) (λ r. first-log l s e a (b (eqb-true _ _ q))) (λ r. all-log l (first-step l s e) (first-log l s e a (b (eqb-true _ _ q)))))
+      (λ q. let f = first-log e a (b (eqb-true _ _ q)) in
+      pick-by (λ (y : State). All P (y .log)) (ends-there e) (first-step l s e) (after-all l (first-step l s e)) (λ r. f)
+      (λ r. all-log (first-step l s e) f))
       (λ q. a)
 
-  -- what it sends
-  abbrev Letters-ok : ℕ → List Letter → Type 0
-  Letters-ok i ls = (x : Sent) → In x (from i ls) → Carries P (x .letter .message)
+  -- LETTERS: only a leader's appends carry entries, and those are of its log
 
-  none-ok : (i : ℕ) → Letters-ok i []
+  abbrev Carry : List Letter → Type 0
+  Carry ls = (x : Sent) → In x (from (l .me) ls) → Carries P (x .letter .message)
+
+  carry-none : Carry []
   unfolding In from
-  none-ok i x h = elim h [ ]
+  carry-none x h = elim h [ ]
 
-  back-ok : (i : ℕ) (s : State) (h : ℕ) (m : Message) → Letters-ok i (back s h m)
-  back-ok i s h (ask-vote t j u) = all-one i _ (λ x. Carries P (x .letter .message)) tt
-  back-ok i s h (vote t ok) = none-ok i
-  back-ok i s h (append t j u es c) = all-one i _ (λ x. Carries P (x .letter .message)) (pick-by (λ y. Carries P y) (ltb t (s .term)) _ _ (λ q. tt) (λ q. pick-by (λ y. Carries P y) (eqb j 0 || term-is (entry-at j (s .log)) u) _ _ (λ r. tt) (λ r. tt)))
-  back-ok i s h (appended t j ok) = none-ok i
+  carry-back : (h : ℕ) (m : Message) → Carry (back s h m)
+  carry-back h (ask-vote t j u) = all-one (l .me) _ (λ x. Carries P (x .letter .message)) tt
+  carry-back h (vote t ok) = carry-none
+  carry-back h (append t j u es c) =
+      all-one (l .me) _ (λ x. Carries P (x .letter .message))
+      (pick-by (λ y. Carries P y) (ltb t (s .term)) _ _ (λ q. tt)
+      (λ q. pick-by (λ y. Carries P y) (eqb j 0 || term-is (entry-at j (s .log)) u) _ _ (λ r. tt) (λ r. tt)))
+  carry-back h (appended t j ok) = carry-none
 
-  first-ok : (l : Limits) (s : State) (e : Event) → Letters-ok (l .me) (first-letters l s e)
-  first-ok l s timeout = pick-by (λ y. Letters-ok (l .me) y) (eqb (s .kind) 2) [] _ (λ q. none-ok (l .me)) (λ q. all-others (l .me) (l .servers) (l .me) _ (λ x. Carries P (x .letter .message)) (λ d. tt))
-  first-ok l s (request c k x) = none-ok (l .me)
-  first-ok l s (comes h m) = back-ok (l .me) s h m
-  first-ok l s restart = none-ok (l .me)
-  first-ok l s (garbled n) = none-ok (l .me)
+  carry-first : (e : Event) → Carry (first-letters l s e)
+  carry-first timeout =
+      pick-by (λ y. Carry y) (eqb (s .kind) 2) [] _ (λ q. carry-none)
+      (λ q. all-others (l .me) (l .servers) (l .me) _ (λ x. Carries P (x .letter .message)) (λ d. tt))
+  carry-first (request c k x) = carry-none
+  carry-first (comes h m) = carry-back h m
+  carry-first restart = carry-none
+  carry-first (garbled n) = carry-none
 
-  sends-ok : (l : Limits) (s : State) → All P (s .log) → Letters-ok (l .me) (sends-now l s)
-  sends-ok l s a = pick-by (λ y. Letters-ok (l .me) y) (eqb (s .kind) 2 && s .send) _ [] (λ q. all-others (l .me) (l .servers) (l .me) (λ h. to-server s h) (λ x. Carries P (x .letter .message)) (λ d. all-above (next-for s d - 1) (s .log) a)) (λ q. none-ok (l .me))
+  carry-sends : (y : State) → All P (y .log) → Carry (sends-now l y)
+  carry-sends y a =
+      pick-by (λ z. Carry z) (eqb (y .kind) 2 && y .send) _ []
+      (λ q. all-others (l .me) (l .servers) (l .me) (λ h. to-server y h) (λ x. Carries P (x .letter .message))
+      (λ d. all-above P (next-for y d - 1) (y .log) a))
+      (λ q. carry-none)
 
-  doing-ok : (l : Limits) (s : State) (e : Event) → All P (s .log) → Brings l s e → Letters-ok (l .me) (letters (doing l s e))
+  carry-doing : (e : Event) → All P (s .log) → Brings e → Carry (letters (doing l s e))
   unfolding letters
-  doing-ok l s e a b =
-      pick-by (λ (y : Answer). Letters-ok (l .me) (letters y)) (is-request e && not (eqb (s .kind) 2)) not-leader _ (λ q. none-ok (l .me))
-      (λ q. pick-by (λ (y : Answer). Letters-ok (l .me) (letters y)) (ends-there e) (does [] []) _ (λ r. none-ok (l .me))
-      (λ r x h. elim (in-either x (from (l .me) (first-letters l s e)) (from (l .me) (sends-now l (settles l (first-step l s e)))) (rw from-append at h))
-      [ inl y ↦ first-ok l s e x y | inr y ↦ sends-ok l (settles l (first-step l s e)) (settles-log l (first-step l s e) (first-log l s e a b)) x y ]))
+  carry-doing e a b =
+      let m : State = settles l (first-step l s e) in
+      let log : All P (m .log) =
+      pick-by (λ (y : State). All P (y .log)) (eqb (first-step l s e .kind) 2) _ _ (λ q. first-log e a b) (λ q. first-log e a b) in
+      pick-by (λ (y : Answer). Carry (letters y)) (is-request e && not (eqb (s .kind) 2)) not-leader _ (λ q. carry-none)
+      (λ q. pick-by (λ (y : Answer). Carry (letters y)) (ends-there e) (does [] []) _ (λ r. carry-none)
+      (λ r x h. elim (in-either x (from (l .me) (first-letters l s e)) (from (l .me) (sends-now l m)) (rw from-append at h))
+      [ inl y ↦ carry-first e x y | inr y ↦ carry-sends m log x y ]))
 
-  pub answer-ok : (l : Limits) (s : State) (e : Event) → All P (s .log) → (turned l s e ≡ 0 → Brings l s e) → Letters-ok (l .me) (letters (answer l s e))
+  pub carry-answer : (e : Event) → All P (s .log) → (turned l s e ≡ 0 → Brings e) → Carry (letters (answer l s e))
   unfolding letters
-  answer-ok l s e a b = pick-by (λ (y : Answer). Letters-ok (l .me) (letters y)) (eqb (turned l s e) 0) (doing l s e) _ (λ q. doing-ok l s e a (b (eqb-true _ _ q))) (λ q. none-ok (l .me))
+  carry-answer e a b =
+      pick-by (λ (y : Answer). Carry (letters y)) (eqb (turned l s e) 0) (doing l s e) _
+      (λ q. carry-doing e a (b (eqb-true _ _ q))) (λ q. carry-none)

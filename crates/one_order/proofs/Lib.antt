@@ -1,8 +1,22 @@
+-- In the order of the argument.
+
+-- orders, which know nothing of servers: replies, sessions, and the order of a log
+pub mod Lists
+pub mod Sequences
+pub mod Sessions
 pub mod Orders
-pub mod Doing
+-- one server: it applies entries, those that are due, at every event; and where its entries come from
+pub mod Applying
+pub mod Due
+pub mod Steps
+pub mod Events
 pub mod Entries
-pub mod Steady
-pub mod Telling
-pub mod Settled
-pub mod Histories
+-- all servers, over time: what is committed, was asked, and was told
+pub mod Runs
+pub mod Agreement
+pub mod Committed
+pub mod Asked
+pub mod Told
+pub mod RealTime
+-- the statements
 pub mod Promises

@@ -1,25 +1,20 @@
--- Tests and picks.
-use mathlib.Core.Path.{_≡_, refl, sym, ap, subst, _∙_}
-use mathlib.Core.Logic.{_⊎_, inl, inr, _≢_}
-use mathlib.Core.Bool.{Bool, true, false, not, _&&_, _||_}
-use mathlib.Core.List.{List, [], _∷_, _++_}
-use Prim.Native.Nat.{ℕ, zero, suc, _+_, _*_, _-_, _/_, _≤_, _<_}
-use native.Mathlib.Omega.{arith}
-use lib.Dec.{ltb, leb, eqb}
+-- Cases of a test: the definitions choose by `pick`, and these two lemmas take the choice apart.
+use mathlib.Core.Path.{_≡_, refl}
+use mathlib.Core.Bool.{Bool, true, false}
 use Rattle.servers.specs.Store.{pick}
-use Rattle.std.proofs.shelf.Ways.{tells}
 
--- cases of a test, with the equation, in a goal that names it
+-- in a goal that names the test anywhere: one goal for each outcome, with the outcome as an equation
 pub bool-by : (P : Bool → Type 0) (b : Bool) → (b ≡ true → P true) → (b ≡ false → P false) → P b
 bool-by P true f g = f refl
 bool-by P false f g = g refl
+
+-- in a goal that names the test once, in a choice
+pub pick-by : {A : Type 0} (P : A → Type 0) (b : Bool) (x y : A) → (b ≡ true → P x) → (b ≡ false → P y) → P (pick b x y)
+pick-by P true x y f g = f refl
+pick-by P false x y f g = g refl
 
 pub pick-true : {A : Type 0} (b : Bool) (x y : A) → b ≡ true → pick b x y ≡ x
 pick-true b x y e = rw e
 
 pub pick-false : {A : Type 0} (b : Bool) (x y : A) → b ≡ false → pick b x y ≡ y
 pick-false b x y e = rw e
-
-pub pick-by : {A : Type 0} (P : A → Type 0) (b : Bool) (x y : A) → (b ≡ true → P x) → (b ≡ false → P y) → P (pick b x y)
-pick-by P true x y f g = f refl
-pick-by P false x y f g = g refl

@@ -1,123 +1,133 @@
--- Whatever happened, the invariant holds.
-use mathlib.Core.Path.{_≡_, refl, sym, ap, subst, _∙_}
-use mathlib.Core.Logic.{_⊎_, inl, inr, _≢_}
-use mathlib.Core.Bool.{Bool, true, false, not, _&&_, _||_}
-use mathlib.Core.List.{List, [], _∷_, _++_}
-use Prim.Native.Nat.{ℕ, zero, suc, _+_, _*_, _-_, _/_, _≤_, _<_}
+-- WHATEVER HAPPENED, THE INVARIANT HOLDS, and what happens after only adds to the history that it speaks of: `history`, by induction on
+-- how the world came to be (Induction).
+use mathlib.Core.Path.{_≡_, refl, subst}
+use mathlib.Core.Bool.{Bool, false}
+use mathlib.Core.List.{List, [], _∷_}
+use Prim.Native.Nat.{ℕ}
 use native.Mathlib.Omega.{arith}
-use lib.Dec.{ltb, leb, eqb}
-use lib.ListN.{length}
-use Rattle.servers.specs.Store.{pick}
-use Rattle.servers.specs.World.{Sent, In, from}
-use Rattle.std.proofs.shelf.Tests.{cases-order, cases-lt, cases-eq, cases-bool, and-parts, false≢true, both-ways}
-use Rattle.std.proofs.shelf.Ways.{tells}
-use Rattle.safety.proofs.Tests.{bool-by, pick-by}
-use Rattle.safety.proofs.Ghosts.{Maybe, just, nothing, Ghost, Ballot, Reign, Held, Good-log, Ack, Ack≥, Chosen, Intact, As-new, Good-ballot, Good-reign, Of-ghost, View, view, bound, Wants, Leads, Sure, Of-server, Appends, Of-message, Of-letter, Grows}
-use Rattle.safety.proofs.Moves.{Rest, in-left, in-right, in-either, from-others, Late, Late-message, ack-split, ack≥-split, At, move, set-cast, cast-here, cast-on, cast-new, grows-cast, grows-none, length-many, length-set-at, nth-set-at, nth-many, all-others, is-nothing}
-use Rattle.servers.specs.Store.{Command}
-use Rattle.servers.specs.Server.{Entry, Limits, State, Letter, Message, Event, timeout, request, comes, restart, garbled, Answer, many, new-server, state, after, answer, last-index, up-to, entry-at, nth}
-use Rattle.servers.specs.World.{Program, Group, limits, Happening, World, new-world, seen, memory, says-now, letters, happens, Lived, new, on-timeout, on-request, on-message, on-restart, on-garbled}
-use Rattle.servers.specs.Promise.{readable, all-readable, Good-limits, Good-group, Right, readable-world, at-server}
-use Rattle.std.proofs.shelf.Tests.{eq-eqb, eqb-true, eqb-false}
-use Rattle.safety.proofs.Ghosts.{Inv}
-use Rattle.safety.proofs.Events.{event-on}
+use Rattle.servers.specs.Server.{Entry, Event, state, after, entry-at}
+use Rattle.servers.specs.World.{Program, Group, limits, Happening, Sent, In, letters, World, new-world, seen, happens, Lived}
+use Rattle.servers.specs.Promise.{Good-group, Right, readable-world, at-server}
+use Rattle.safety.specs.Safety.{Until, at-moment}
+use Rattle.safety.proofs.Tables.{length-many}
+use Rattle.safety.proofs.Ghost.{nothing, just, Ghost, Ack, replied, led, Extends}
+use Rattle.safety.proofs.Invariant.{Valid-log, Server-invariant, view, Invariant}
+use Rattle.safety.proofs.Growth.{extends-refl, extends-trans}
+use Rattle.safety.proofs.Turn.{Before, Turn}
+use Rattle.safety.proofs.Event.{event-keeps}
+use Rattle.safety.proofs.Induction.{Step, worlds-by, each-server, answers}
 
-abbrev nothing-yet : Ghost
-nothing-yet = record { cast = λ v t. nothing; reign = λ t. nothing; full = λ t. [] }
+-- AT THE START there is no vote, no leader and no letter
+abbrev no-history : Ghost
+no-history = record { ballot = λ v t. nothing; elected = λ t. nothing; leader-log = λ t. [] }
 
-no-just : {A : Type 0} {x : A} {P : Type 0} → nothing ≡ just x → P
-no-just e = let z : _≡_ {A = ℕ} 0 1 = cc in absurd (omega arith)
+no-just : {A : Type 0} {x : A} (P : Type 0) → nothing ≡ just x → P
+no-just P e = let z : _≡_ {A = ℕ} 0 1 = cc in absurd (omega arith)
 
-no-entry : (n : ℕ) (e : Entry) {P : Type 0} → entry-at n [] ≡ e ∷ [] → P
+no-entry : (n : ℕ) (e : Entry) (P : Type 0) → entry-at n [] ≡ e ∷ [] → P
 unfolding entry-at
-no-entry n e q = let z : _≡_ {A = ℕ} 0 1 = cc in absurd (omega arith)
+no-entry n e P q = let z : _≡_ {A = ℕ} 0 1 = cc in absurd (omega arith)
 
-no-log : (t : ℕ) → Good-log nothing-yet [] t
-no-log t = record { row = tt; rising = tt; held = λ n e q. no-entry n e q }
+no-log : (t : ℕ) → Valid-log no-history [] t
+no-log t = record { contiguous = tt; ascending = tt; matching = λ n e q. no-entry n e _ q }
 
-no-ack : (v t m : ℕ) {P : Type 0} → Ack nothing-yet [] v t m → P
+no-ack : {v t n : ℕ} (P : Type 0) → Ack no-history [] v t n → P
 unfolding In
-no-ack v t m (inl (d, x)) = elim x [ ]
-no-ack v t m (inr (r, q, e, h)) = no-just q
+no-ack P (replied d x) = elim x [ ]
+no-ack P (led r q e h) = no-just P q
 
-pub at-first : (f : Program) (g : Group) → Inv (g .servers) (at-server g new-world) [] [] 0
+pub at-start : (g : Group) → Invariant (g .servers) (at-server g new-world) []
 unfolding state seen In
-at-first f g =
+at-start g =
     record {
-      γ = nothing-yet;
-      ghost = record { ballots = λ v t b q. no-just q; reigns = λ t r q. no-just q; fulls = no-log; none = λ t q. refl };
-      server = λ v. record {
-        good = no-log 0;
-        votes-long = length-many (g .servers) false;
-        matches-long = length-many (g .servers) 0;
-        ballot = λ t b q. no-just q;
-        wants = λ e. absurd (omega arith);
-        leads = λ e. absurd (omega arith);
-        acked = λ t m a. no-ack v t m a;
-        kept = λ u n a j. no-ack v u (a .upto) (a .ack);
-        sure = λ h. absurd (omega arith);
+      γ = no-history;
+      ghost = record {
+        ballots = λ v t b q. no-just _ q;
+        elections = λ t r q. no-just _ q;
+        leader-logs = no-log;
+        no-leader = λ t q. refl;
       };
-      letter = λ x h. elim h [ ];
-      sure = λ h. absurd (omega arith);
+      servers = λ v. record {
+        log = no-log 0;
+        votes-size = length-many (g .servers) false;
+        matches-size = length-many (g .servers) 0;
+        ballots = λ t b q. no-just _ q;
+        candidate = λ e. absurd (omega arith);
+        leader = λ e. absurd (omega arith);
+        acks = λ t n a. no-ack _ a;
+        keeps = λ t n a inherits. no-ack _ (a .ack);
+        commit = λ h. absurd (omega arith);
+      };
+      letters = λ x h. elim h [ ];
     }
 
-module _ (can : ℕ → Bool) (f : Program) (g : Group) (right : Right can f) (group : Good-group can g) where
-  module _ (w : World) (i : ℕ) (e : Event) (low : i < g .servers) (fine : readable-world (happens f g w i e)) where
-    pub fine-before : readable-world w
-    unfolding readable-world seen all-readable
-    fine-before v = bool-by (λ b. all-readable (pick b (e ∷ seen v (w .past)) (seen v (w .past))) ≡ true → all-readable (seen v (w .past)) ≡ true) (eqb i v)
-        (λ q h. and-parts (readable e) (all-readable (seen v (w .past))) h .1) (λ q h. h) (fine v)
+-- ONE HAPPENING: the invariant holds afterwards, of a history that has grown
+pub record Next (g : Group) (w : World) (γ : Ghost) (w′ : World) : Type 0 where
+  pub inv : Invariant (g .servers) (at-server g w′) (w′ .sent)
+  pub extends : Extends γ (w .sent) (inv .γ) (w′ .sent)
 
-    pub readable-here : all-readable (e ∷ seen i (w .past)) ≡ true
-    unfolding readable-world seen
-    readable-here = bool-by (λ b. eqb i i ≡ b → all-readable (pick b (e ∷ seen i (w .past)) (seen i (w .past))) ≡ true → all-readable (e ∷ seen i (w .past)) ≡ true) (eqb i i)
-        (λ q p h. h) (λ q p h. absurd (eqb-false i i q refl)) refl (fine i)
+module _ {can : ℕ → Bool} {f : Program} {g : Group} (right : Right can f) (group : Good-group can g) where
+  next : (w : World) (i : ℕ) (e : Event) → Step f g w i e → (inv : Invariant (g .servers) (at-server g w) (w .sent))
+      → Next g w (inv .γ) (happens f g w i e)
+  next w i e step inv =
+      let was : Before = record { states = at-server g w; ghost = inv .γ; sent = w .sent } in
+      let a : Turn (g .servers) i was (at-server g w i) (w .sent) = record {
+        γ = inv .γ;
+        since = extends-refl (inv .γ) (w .sent);
+        ghost = inv .ghost;
+        mine = inv .servers i;
+        others = λ v ne. inv .servers v;
+        letters = inv .letters;
+      } in
+      let b : Turn (g .servers) i was (after (limits g i) (at-server g w i) e) (happens f g w i e .sent) =
+      rw (answers right group w i e step) (event-keeps (limits g i) a e (step .sent)) in
+      record {
+        inv = record {
+          γ = b .γ;
+          ghost = b .ghost;
+          servers = each-server f g w i e (λ v s. Server-invariant (g .servers) (b .γ) (happens f g w i e .sent) v (view s))
+              (b .mine) (b .others);
+          letters = b .letters;
+        };
+        extends = b .since;
+      }
 
-    pub says : says-now f g w i e ≡ answer (limits g i) (at-server g w i) e
-    unfolding Right
-    says = right (limits g i) (seen i (w .past)) e (group .0, group .1, low, group .2, group .3, group .4, group .5, group .6) readable-here
+-- ALL THAT HAPPENED
 
-    pub step : (set : List Entry) (top : ℕ) → Inv (g .servers) (at-server g w) (w .sent) set top → ((h : ℕ) (m : Message) → e ≡ comes h m → In (record { by = h; letter = record { to = i; message = m } }) (w .sent))
-        → Inv (g .servers) (at-server g (happens f g w i e)) (happens f g w i e .sent) set top
-    unfolding seen state
-    step set top inv c =
-        let a : At (g .servers) i (at-server g w i) (record { states = at-server g w; settled = set; top = top }) (w .sent) = record { γ = inv .γ; ghost = inv .ghost; mine = inv .server i; others = λ v ne. inv .server v; letter = inv .letter; settled = inv .sure } in
-        let b : At (g .servers) i (after (limits g i) (at-server g w i) e) (record { states = at-server g w; settled = set; top = top }) (w .sent ++ from i (letters (says-now f g w i e))) =
-        rw says (event-on (limits g i) (at-server g w i) (record { states = at-server g w; settled = set; top = top }) (w .sent) a e c) in
-        record { γ = b .γ; ghost = b .ghost; server = λ v. server b v; letter = b .letter; sure = b .settled }
-      where
-        server : (b : At (g .servers) i (after (limits g i) (at-server g w i) e) (record { states = at-server g w; settled = set; top = top }) (w .sent ++ from i (letters (says-now f g w i e)))) (v : ℕ)
-            → Of-server (g .servers) (b .γ) (w .sent ++ from i (letters (says-now f g w i e))) v (view (at-server g (happens f g w i e) v))
-        server b v = bool-by (λ z. Of-server (g .servers) (b .γ) (w .sent ++ from i (letters (says-now f g w i e))) v (view (state (limits g v) (pick z (e ∷ seen v (w .past)) (seen v (w .past)))))) (eqb i v)
-            (λ q. subst (λ y. Of-server (g .servers) (b .γ) (w .sent ++ from i (letters (says-now f g w i e))) y (view (state (limits g y) (e ∷ seen y (w .past))))) (eqb-true i v q) (b .mine))
-            (λ q. b .others v (λ p. eqb-false i v q (sym p)))
+-- the invariant at a moment of the past, and that history has grown since
+pub record Held-at (g : Group) (γ : Ghost) (sent : List Sent) (m : List Happening) : Type 0 where
+  pub sent-then : List Sent
+  pub inv : Invariant (g .servers) (at-moment g m) sent-then
+  pub extends : Extends (inv .γ) sent-then γ sent
 
-module _ (f : Program) (g : Group) where
-  pub no-letter : (w : World) (i : ℕ) (e : Event) → ((h : ℕ) (m : Message) → e ≡ comes h m → ⊥) → (h : ℕ) (m : Message) → e ≡ comes h m → In (record { by = h; letter = record { to = i; message = m } }) (w .sent)
-  no-letter w i e c h m q = absurd (c h m q)
+pub record History (g : Group) (w : World) : Type 0 where
+  pub inv : Invariant (g .servers) (at-server g w) (w .sent)
+  pub moments : (m : List Happening) → Until m (w .past) → Held-at g (inv .γ) (w .sent) m
 
-  pub came : (w : World) (x : Sent) → In x (w .sent) → (h : ℕ) (m : Message) → comes (x .by) (x .letter .message) ≡ comes h m → In (record { by = h; letter = record { to = x .letter .to; message = m } }) (w .sent)
-  came w x there h m q =
-      let p : x .by ≡ h = cc in
-      let r : x .letter .message ≡ m = cc in
-      subst (λ y. In (record { by = y; letter = record { to = x .letter .to; message = m } }) (w .sent)) p (subst (λ y. In (record { by = x .by; letter = record { to = x .letter .to; message = y } }) (w .sent)) r there)
+-- the present is a moment
+present : (g : Group) (w : World) (inv : Invariant (g .servers) (at-server g w) (w .sent)) (m : List Happening) → w .past ≡ m
+    → Held-at g (inv .γ) (w .sent) m
+present g w inv m e =
+    subst (λ y. Held-at g (inv .γ) (w .sent) y) e (record { sent-then = w .sent; inv = inv; extends = extends-refl (inv .γ) (w .sent) })
 
-module _ (can : ℕ → Bool) (f : Program) (g : Group) (right : Right can f) (group : Good-group can g) where
-  abbrev pub Invariant : World → Type 0
-  Invariant w = Inv (g .servers) (at-server g w) (w .sent) [] 0
+-- a moment of the world is the present, or a moment of the world before its last happening
+extend : (f : Program) {g : Group} (w : World) (i : ℕ) (e : Event) (hist : History g w) → Next g w (hist .inv .γ) (happens f g w i e)
+    → History g (happens f g w i e)
+extend f {g} w i e hist n = record { inv = n .inv; moments = moments }
+  where
+    earlier : {m : List Happening} → Held-at g (hist .inv .γ) (w .sent) m → Held-at g (n .inv .γ) (happens f g w i e .sent) m
+    earlier x = record { sent-then = x .sent-then; inv = x .inv; extends = extends-trans (x .extends) (n .extends) }
 
-  next : (w : World) (i : ℕ) (e : Event) (low : i < g .servers) (fine : readable-world (happens f g w i e)) → (readable-world w → Invariant w)
-      → ((h : ℕ) (m : Message) → e ≡ comes h m → In (record { by = h; letter = record { to = i; message = m } }) (w .sent)) → Invariant (happens f g w i e)
-  next w i e low fine inv c = step can f g right group w i e low fine [] 0 (inv (fine-before can f g right group w i e low fine)) c
+    moments : (m : List Happening) → Until m (happens f g w i e .past) → Held-at g (n .inv .γ) (happens f g w i e .sent) m
+    moments m ([], q) = present g (happens f g w i e) (n .inv) m q
+    moments m (h ∷ since, q) = earlier (hist .moments m (since, cc))
 
-  pub invariant : {w : World} → Lived f g w → readable-world w → Invariant w
-  invariant new fine = at-first f g
-  invariant (on-timeout {w} i lived low) fine =
-      next w i timeout low fine (invariant lived) (no-letter f g w i timeout (λ h m q. let z : _≡_ {A = ℕ} 0 1 = cc in omega arith))
-  invariant (on-request {w} i c k x lived low) fine =
-      next w i (request c k x) low fine (invariant lived) (no-letter f g w i (request c k x) (λ h m q. let z : _≡_ {A = ℕ} 0 1 = cc in omega arith))
-  invariant (on-message {w} s lived there low) fine = next w (s .letter .to) (comes (s .by) (s .letter .message)) low fine (invariant lived) (came f g w s there)
-  invariant (on-restart {w} i lived low) fine =
-      next w i restart low fine (invariant lived) (no-letter f g w i restart (λ h m q. let z : _≡_ {A = ℕ} 0 1 = cc in omega arith))
-  invariant (on-garbled {w} i n lived low) fine =
-      next w i (garbled n) low fine (invariant lived) (no-letter f g w i (garbled n) (λ h m q. let z : _≡_ {A = ℕ} 0 1 = cc in omega arith))
+pub history : (can : ℕ → Bool) (f : Program) (g : Group) → Right can f → Good-group can g → {w : World} → Lived f g w → readable-world w
+    → History g w
+history can f g right group =
+    worlds-by f g (History g) (record { inv = at-start g; moments = first })
+    (λ w i e step hist. extend f w i e hist (next right group w i e step (hist .inv)))
+  where
+    first : (m : List Happening) → Until m [] → Held-at g (at-start g .γ) [] m
+    first m ([], q) = present g new-world (at-start g) m q
+    first m (h ∷ since, q) = let z : _≡_ {A = ℕ} 0 1 = cc in absurd (omega arith)

@@ -58,21 +58,24 @@ impl Role {
 
 pub fn term(mem: &[u64]) -> u64
     requires held { ⌜ Held (now mem) ⌝ }
-    ensures { λ r. ⌜ r ≡ state-of (now (mem .entry)) .term ⌝ }
+    ensures value { λ r. ⌜ r ≡ state-of (now (mem .entry)) .term ⌝ }
+    ensures low { λ r. ⌜ r ≤ last-of-all ⌝ }
 {
     mem[TERM]
 }
 
 pub fn commit(mem: &[u64]) -> u64
     requires held { ⌜ Held (now mem) ⌝ }
-    ensures { λ r. ⌜ r ≡ state-of (now (mem .entry)) .commit ⌝ }
+    ensures value { λ r. ⌜ r ≡ state-of (now (mem .entry)) .commit ⌝ }
+    ensures low { λ r. ⌜ r ≤ room-in (now (mem .entry)) ⌝ }
 {
     mem[COMMIT]
 }
 
 pub fn applied(mem: &[u64]) -> u64
     requires held { ⌜ Held (now mem) ⌝ }
-    ensures { λ r. ⌜ r ≡ state-of (now (mem .entry)) .applied ⌝ }
+    ensures value { λ r. ⌜ r ≡ state-of (now (mem .entry)) .applied ⌝ }
+    ensures low { λ r. ⌜ r ≤ room-in (now (mem .entry)) ⌝ }
 {
     mem[APPLIED]
 }
@@ -82,6 +85,7 @@ pub fn last_index(mem: &[u64]) -> u64
     requires held { ⌜ Held (now mem) ⌝ }
     ensures word { λ r. ⌜ r ≡ getD (now (mem .entry)) 10 0 ⌝ }
     ensures last { λ r. ⌜ r ≡ last-index (state-of (now (mem .entry)) .log) ⌝ }
+    ensures low { λ r. ⌜ r ≤ room-in (now (mem .entry)) ⌝ }
 {
     mem[LENGTH]
 }

@@ -3,7 +3,7 @@ ghost use mathlib.Core.Path.{_≡_};
 ghost use Prim.Native.Nat.{ℕ, _+_, _*_, _/_, _^_, _<_, _≤_};
 ghost use lib.Dec.{ltb};
 ghost use lib.ListN.{length, getD};
-ghost use Rattle.memory.specs.Layout.{log-at, store-at, cache-at};
+ghost use Rattle.memory.specs.Layout.{servers-in, log-at, store-at, cache-at};
 ghost use Rattle.state.specs.Held.{Held, limits-held};
 use servers::limits::Limits;
 
@@ -28,6 +28,13 @@ pub fn limits(mem: &[u64]) -> Limits
         clients: mem[CLIENTS],
         room: mem[ROOM],
     }
+}
+
+pub fn servers(mem: &[u64]) -> usize
+    requires held { ⌜ Held (now mem) ⌝ }
+    ensures { λ r. ⌜ r ≡ servers-in (now (mem .entry)) ⌝ }
+{
+    mem[SERVERS] as usize
 }
 
 // Whether so many servers are more than half.

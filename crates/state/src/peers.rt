@@ -17,7 +17,8 @@ const LENGTH: usize = 10;
 pub fn next_for(mem: &[u64], h: usize) -> u64
     requires held { ⌜ Held (now mem) ⌝ }
     requires here { ⌜ h < servers-in (now mem) ⌝ }
-    ensures { λ r. ⌜ r ≡ next-for (state-of (now (mem .entry))) h ⌝ }
+    ensures value { λ r. ⌜ r ≡ next-for (state-of (now (mem .entry))) h ⌝ }
+    ensures low { λ r. ⌜ r ≤ room-in (now (mem .entry)) + 1 ⌝ }
 {
     let next = mem[HEAD + h];
     if next == 0 { mem[LENGTH] } else { next - 1 }
@@ -36,7 +37,8 @@ pub fn set_next(mem: &mut [u64], h: usize, n: u64)
 pub fn match_of(mem: &[u64], h: usize) -> u64
     requires held { ⌜ Held (now mem) ⌝ }
     requires here { ⌜ h < servers-in (now mem) ⌝ }
-    ensures { λ r. ⌜ r ≡ nth 0 (state-of (now (mem .entry)) .matches) h ⌝ }
+    ensures value { λ r. ⌜ r ≡ nth 0 (state-of (now (mem .entry)) .matches) h ⌝ }
+    ensures low { λ r. ⌜ r ≤ room-in (now (mem .entry)) ⌝ }
 {
     mem[HEAD + mem[SERVERS] as usize + h]
 }

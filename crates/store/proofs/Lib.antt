@@ -1,5 +1,10 @@
 pub mod Order
 pub mod Stores
 pub mod Rows
-pub mod Index
+pub mod RowNumbers
 pub mod Regions
+pub mod Shifts
+pub mod Reading
+pub mod Writing
+pub mod Doing
+pub mod CommandParts

@@ -14,7 +14,7 @@ use Rattle.store.specs.Laws.{Region-laws}
 use Rattle.store.proofs.Order.{bool-by, pick-by, pick-true, pick-false, at-pick}
 use Rattle.store.proofs.Stores.{with-place, without-place, place-within, found-within, sorted-with, sorted-without}
 use Rattle.store.proofs.Rows.{all-append, length-rows-words, rows-back, rows-fit, good-blanks, good-set}
-use Rattle.store.proofs.Index.{all-left, all-at, split-used, take-used, take-split, take-opened, take-closed, length-opened, length-closed, all-opened, all-closed, apart-opened, apart-closed, apart-left, apart-around, items-around, split-free, length-numbers, numbers-below, numbers-apart}
+use Rattle.store.proofs.RowNumbers.{all-left, all-at, split-used, take-used, take-split, take-opened, take-closed, length-opened, length-closed, all-opened, all-closed, apart-opened, apart-closed, apart-left, apart-around, items-around, split-free, length-numbers, numbers-below, numbers-apart}
 
 -- a region from its parts is read back
 pub index-back : (n c : ℕ) (is : List ℕ) (xs : List Item) → length is ≡ n → index-of (region-of c n is xs) ≡ is

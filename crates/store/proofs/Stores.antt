@@ -169,3 +169,14 @@ sorted-without k [] h = tt
 sorted-without k (x ∷ s) h =
     pick-by Sorted (same-text k (x .key)) _ _ (λ e. h .1)
     (λ e. (all-without (λ y. less-text (x .key) (y .key) ≡ true) k s (h .0), sorted-without k s (h .1)))
+
+-- whether a name is there shows at its place
+pub found-at : (k : List ℕ) (s : Store) → found k s ≡ (ltb (place k s) (length s) && same-text (getD s (place k s) blank .key) k)
+unfolding place found
+found-at k [] = refl
+found-at k (x ∷ s) =
+    bool-by (λ b. pick b (found k s) (same-text (x .key) k)
+    ≡ (ltb (pick b (suc (place k s)) 0) (suc (length s)) && same-text (getD (x ∷ s) (pick b (suc (place k s)) 0) blank .key) k))
+    (less-text (x .key) k)
+    (λ e. let l : ltb (suc (place k s)) (suc (length s)) ≡ ltb (place k s) (length s) = grind (arith, tells) in rw l (found-at k s))
+    (λ e. rw (lt-ltb 0 (suc (length s)) (omega arith)) refl)

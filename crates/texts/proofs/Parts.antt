@@ -108,7 +108,7 @@ unfolding unpacked
 unpacked-more ws k h =
     rw (take-more ws k 0 h, unpacked-append (take k ws) (getD ws k 0 ∷ []), append-nil (bytes-be 8 (getD ws k 0))) refl
 
-take-past : {X : Type 0} (xs ys : List X) (n k : ℕ) → length xs ≡ n → take (n + k) (xs ++ ys) ≡ xs ++ take k ys
+pub take-past : {X : Type 0} (xs ys : List X) (n k : ℕ) → length xs ≡ n → take (n + k) (xs ++ ys) ≡ xs ++ take k ys
 take-past [] ys n k e = let z : n + k ≡ k = omega arith in rw z refl
 take-past (x ∷ xs) ys zero k e = absurd (omega arith)
 take-past (x ∷ xs) ys (suc n) k e =

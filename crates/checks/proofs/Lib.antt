@@ -1,0 +1,4 @@
+pub mod Entries
+pub mod Handing
+pub mod Laws
+pub mod Outcomes
