@@ -35,8 +35,8 @@ expects-low (t ∷ ts) g = let n = g .0 .0 in omega arith
 part-firsts : (n : ℕ) (xs ys zs : List ℕ) → length xs ≡ 9 → length ys ≡ 33
     → (getD (n ∷ (xs ++ (ys ++ zs))) 10 0 ≡ getD ys 0 0) × (getD (n ∷ (xs ++ (ys ++ zs))) 43 0 ≡ getD zs 0 0)
 part-firsts n xs ys zs a b = (
-    getD-append-right xs (ys ++ zs) 9 9 0 a (omega arith) ∙ getD-append-left ys zs 0 0 (omega arith),
-    getD-append-right xs (ys ++ zs) 9 42 0 a (omega arith) ∙ getD-append-right ys zs 33 33 0 b (omega arith),
+  getD-append-right xs (ys ++ zs) 9 9 0 a (omega arith) ∙ getD-append-left ys zs 0 0 (omega arith),
+  getD-append-right xs (ys ++ zs) 9 42 0 a (omega arith) ∙ getD-append-right ys zs 33 33 0 b (omega arith),
 )
 
 sound-words : (x : Command) → Good-command x → Sound-command (command-words x)

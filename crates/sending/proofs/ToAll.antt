@@ -13,6 +13,7 @@ use Rattle.servers.specs.Store.{pick}
 use Rattle.servers.specs.Server.{Message, Letter, to-others}
 use Rattle.wire.specs.Write.{write-letter, write-letters}
 use Rattle.wire_write.specs.Put.{Writes}
+use Rattle.wire_write.proofs.Putting.{writes-as, writes-then}
 use Rattle.sending.specs.Letters.{post}
 
 letters-append : (xs ys : List Letter) → write-letters (xs ++ ys) ≡ write-letters xs ++ write-letters ys
@@ -44,12 +45,27 @@ sent-more n m f h =
     ∙ (ap (λ (b : Bool). sent-bytes n m f ++ write-letters (pick b [] (record { to = n; message = f n } ∷ []))) (ne-eqb n m h)
     ∙ ap (λ (z : List ℕ). sent-bytes n m f ++ z) (append-nil (post n (f n)))))
 
-pub sent-none : (n m : ℕ) (f : ℕ → Message) → n ≡ m → sent-bytes n m f ≡ sent-bytes (n + 1) m f
+sent-none : (n m : ℕ) (f : ℕ → Message) → n ≡ m → sent-bytes n m f ≡ sent-bytes (n + 1) m f
 unfolding write-letters
 sent-none n m f h =
     sym (sent-step n m f
     ∙ (ap (λ (b : Bool). sent-bytes n m f ++ write-letters (pick b [] (record { to = n; message = f n } ∷ []))) (eq-eqb n m h)
     ∙ append-nil (sent-bytes n m f)))
+
+-- a writer's promise with one letter more, and with none for the server itself
+pub sent-on :
+    {at n r : ℕ} {xs ys zs : List ℕ} (h m : ℕ) (f : ℕ → Message) → h ≢ m → Writes at (sent-bytes h m f) xs ys n
+    → Writes n (post h (f h)) ys zs r → Writes at (sent-bytes (h + 1) m f) xs zs r
+sent-on h m f q w v = writes-as (sent-more h m f q) (writes-then w v)
+
+pub sent-past :
+    {at r : ℕ} {xs ys : List ℕ} (h m : ℕ) (f : ℕ → Message) → h ≡ m → Writes at (sent-bytes h m f) xs ys r
+    → Writes at (sent-bytes (h + 1) m f) xs ys r
+sent-past h m f q w = writes-as (sent-none h m f q) w
+
+-- the same bytes and place by other names
+pub same-end : {at r n : ℕ} {bs xs ys zs : List ℕ} → zs ≡ ys → n ≡ r → Writes at bs xs ys r → Writes at bs xs zs n
+same-end e q w = rw (e, q) w
 
 -- those to fewer are no longer
 pub sent-fewer : (n k m : ℕ) (f : ℕ → Message) → n ≤ k → length (sent-bytes n m f) ≤ length (sent-bytes k m f)

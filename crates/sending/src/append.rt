@@ -8,7 +8,7 @@ ghost use Rattle.log.specs.Rows.{log-in};
 ghost use Rattle.log.specs.Bytes.{Sound};
 ghost use Rattle.sending.specs.Letters.{append-from};
 use log::find::term_or_zero;
-use log::write::put_entries;
+use log::write::write_entries;
 use wire_write::message::write_append_head;
 
 // The entries above the index `before`, of a log of `len` entries, with the term of the entry there.
@@ -31,5 +31,5 @@ pub fn write_append(
     let before_term = term_or_zero(log, len, before);
     let count = (len as u64).saturating_sub(before);
     let entries = write_append_head(out, at, term, before, before_term, commit, count);
-    put_entries(out, entries, log, len, before as usize)
+    write_entries(out, entries, log, len, before as usize)
 }

@@ -3,7 +3,7 @@
 ghost use mathlib.Core.Path.{_≡_};
 ghost use Prim.Native.Nat.{ℕ, _+_, _-_, _<_, _≤_};
 ghost use lib.ListN.{length};
-ghost use Rattle.servers.specs.Server.{State, Message, vote, appended, to-server};
+ghost use Rattle.servers.specs.Server.{State, Message, vote, appended, next-for, to-server};
 ghost use Rattle.wire_write.specs.Heads.{letter-head};
 ghost use Rattle.wire_write.specs.Put.{Writes};
 ghost use Rattle.memory.specs.Layout.{servers-in};
@@ -45,7 +45,14 @@ pub fn write_vote_letter(out: &mut [u8], at: usize, to: u8, term: u64, granted: 
 }
 
 // The reply to AppendEntries.
-pub fn write_appended_letter(out: &mut [u8], at: usize, to: u8, term: u64, index: u64, ok: bool) -> usize
+pub fn write_appended_letter(
+    out: &mut [u8],
+    at: usize,
+    to: u8,
+    term: u64,
+    index: u64,
+    ok: bool,
+) -> usize
     requires { ⌜ at + 27 ≤ length (now out) ⌝ }
     ensures bytes { λ r. ⌜ Writes at (post to (appended term index ok)) (now (out .entry)) (now (out .exit)) r ⌝ }
     ensures next { λ r. ⌜ r ≡ at + 27 ⌝ }
@@ -67,14 +74,23 @@ pub fn write_ask_letter(mem: &[u64], out: &mut [u8], at: usize, h: usize) -> usi
     seal(out, at, h as u8, end)
 }
 
-// AppendEntries: what comes after the entry before a server's next index.
+// The index before the next one for a server: entries are sent from there on.
+fn sent_before(mem: &[u64], h: usize) -> u64
+    requires held { ⌜ Held (now mem) ⌝ }
+    requires here { ⌜ h < servers-in (now mem) ⌝ }
+    ensures { λ r. ⌜ r ≡ next-for (state-of (now (mem .entry))) h - 1 ⌝ }
+{
+    next_for(mem, h).saturating_sub(1)
+}
+
+// AppendEntries: the entries from a server's next index on.
 pub fn write_entries_letter(mem: &[u64], out: &mut [u8], at: usize, h: usize) -> usize
     requires held { ⌜ Held (now mem) ⌝ }
     requires here { ⌜ h < servers-in (now mem) ⌝ }
     requires room { ⌜ at + length (post h (to-server (state-of (now mem)) h)) ≤ length (now out) ⌝ }
     ensures { λ r. ⌜ Writes at (post h (to-server (state-of (now (mem .entry))) h)) (now (out .entry)) (now (out .exit)) r ⌝ }
 {
-    let before = next_for(mem, h).saturating_sub(1);
+    let before = sent_before(mem, h);
     let len = head::last_index(mem) as usize;
     let term = head::term(mem);
     let commit = head::commit(mem);

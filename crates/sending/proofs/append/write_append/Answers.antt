@@ -16,8 +16,8 @@ write-append-head-entries-requires c κs =
     let l = length-append-message (c .args .term) i (term-of (entry-at i log)) (c .args .commit) (above i log) in
     omega arith
 
-pub put-entries-requires : need.put-entries-requires
-put-entries-requires c κs =
+pub write-entries-requires : need.write-entries-requires
+write-entries-requires c κs =
     let log : List Entry = log-in (c .args .len) (c .args .log .now) in
     let i : ℕ = c .args .before in
     let l = length-append-message (c .args .term) i (term-of (entry-at i log)) (c .args .commit) (above i log) in
@@ -27,10 +27,7 @@ pub returns : need.returns
 returns c =
     let log : List Entry = log-in (c .args .len) (c .args .log .now) in
     let i : ℕ = c .args .before in
-    let l = length-append-message (c .args .term) i (term-of (entry-at i log)) (c .args .commit) (above i log) in
     let row = log-in-row (c .args .len) (c .args .log .now) in
-    let p = c .put-entries .ensures in
-    let place = p .place in
     append-written (c .args .term) i (c .term-or-zero-before-term .result) (c .args .commit) (c .saturating-sub-count .result) log (row .0)
     (c .term-or-zero-before-term .ensures) (c .saturating-sub-count .ensures ∙ ap (λ (n : ℕ). n - i) (sym (row .1)))
-    (c .write-append-head-entries .ensures .bytes) (record { bytes = p .bytes; next = place; room = omega arith })
+    (c .write-append-head-entries .ensures .bytes) (c .write-entries .ensures)

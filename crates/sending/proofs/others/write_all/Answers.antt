@@ -12,7 +12,8 @@ use Rattle.wire_write.proofs.Putting.{writes-as, writes-then, writes-none}
 use Rattle.sending.specs.Letters.{post}
 use Rattle.sending.specs.Others.{message-to}
 use Rattle.sending.proofs.others.write_all.Needs as need
-use Rattle.sending.proofs.ToAll.{sent-bytes, sent-start, sent-more, sent-none, sent-fewer}
+use Rattle.sending.proofs.others.write_all.Needs.{then-h-all, else-h-all}
+use Rattle.sending.proofs.ToAll.{sent-bytes, sent-start, sent-more, sent-on, sent-past, same-end, sent-fewer}
 
 pub loop-h-holds : need.loop-h-holds
 loop-h-holds c =
@@ -34,12 +35,14 @@ write-one-next-requires c κs =
     record { held = c .pre .held; here = omega arith; room = omega arith }
 
 pub loop-h-again : need.loop-h-again
-loop-h-again c = 
+loop-h-again c =
     let m : List ℕ = c .args .mem .now in
     let h : ℕ = c .loop-h .h in
     let f : (ℕ → Message) = message-to (c .args .sent) (state-of m) in
     let me = ap (λ (l : Limits). l .me) (c .limits-all .ensures) in
     elim (c .if-h-all .came) [
-      | need.then-h-all w ↦ ?
-      | need.else-h-all w ↦ ?
+      | then-h-all w ↦
+          same-end (w .out-is) (w .next-is)
+          (sent-on h (me-in m) f (λ z. w .if-h-all .taken (omega arith)) (c .loop-h .inv) (w .write-one-next .ensures))
+      | else-h-all w ↦ same-end (w .out-is) (w .next-is) (sent-past h (me-in m) f (w .if-h-all .left ∙ me) (c .loop-h .inv))
     ]
