@@ -1,10 +1,11 @@
 -- Letters to all others, one after the other.
 use native.Mathlib.Omega.{arith}
+use native.Mathlib.Nat.{suc-mul}
 use mathlib.Core.Path.{_≡_, refl, sym, ap, _∙_}
 use mathlib.Core.Logic.{_≢_, inl, inr}
-use mathlib.Core.Bool.{Bool, true, false}
+use mathlib.Core.Bool.{Bool}
 use mathlib.Core.List.{List, [], _∷_, _++_}
-use Prim.Native.Nat.{ℕ, zero, suc, _+_, _-_, _≤_, _<_}
+use Prim.Native.Nat.{ℕ, zero, suc, _+_, _*_, _-_, _≤_, _<_}
 use lib.Dec.{eqb}
 use lib.ListN.{length}
 use Rattle.std.proofs.shelf.Lists.{append-assoc, append-nil, length-append}
@@ -81,26 +82,46 @@ sent-fewer n (suc k) m f h =
           rw (← z) (omega arith)
     ]
 
--- so many letters
+-- how many letters
+count-more : (n m : ℕ) (f : ℕ → Message) → n ≢ m → length (to-others (suc n) m f) ≡ suc (length (to-others n m f))
+unfolding to-others
+count-more n m f h =
+    let l = length-append (to-others n m f) (record { to = n; message = f n } ∷ []) in
+    rw (ne-eqb n m h) (omega arith)
+
+count-same : (n m : ℕ) (f : ℕ → Message) → n ≡ m → length (to-others (suc n) m f) ≡ length (to-others n m f)
+unfolding to-others
+count-same n m f h = rw (eq-eqb n m h, append-nil (to-others n m f)) refl
+
 all-of : (n m : ℕ) (f : ℕ → Message) → n ≤ m → length (to-others n m f) ≡ n
 unfolding to-others
 all-of zero m f h = refl
-all-of (suc n) m f h =
-    let ih = all-of n m f (omega arith) in
-    let l = length-append (to-others n m f) (record { to = n; message = f n } ∷ []) in
-    rw (ne-eqb n m (λ z. omega arith)) (omega arith)
+all-of (suc n) m f h = count-more n m f (λ z. omega arith) ∙ ap suc (all-of n m f (omega arith))
 
 pub how-many : (n m : ℕ) (f : ℕ → Message) → m < n → n - 1 ≡ length (to-others n m f)
-unfolding to-others
 how-many zero m f h = absurd (omega arith)
 how-many (suc n) m f h =
     elim (cases-eq n m) [
+      | inl q ↦ let a = all-of n m f (omega arith) in let b = count-same n m f q in omega arith
+      | inr q ↦ let ih = how-many n m f (omega arith) in let b = count-more n m f q in omega arith
+    ]
+
+-- none longer than k
+pub sent-most :
+    (n m k : ℕ) (f : ℕ → Message) → ((h : ℕ) → length (post h (f h)) ≤ k) → length (sent-bytes n m f) ≤ length (to-others n m f) * k
+unfolding to-others write-letters
+sent-most zero m k f g = omega arith
+sent-most (suc n) m k f g =
+    let z : n + 1 ≡ suc n = omega arith in
+    let ih = sent-most n m k f g in
+    elim (cases-eq n m) [
       | inl q ↦
-          let a = all-of n m f (omega arith) in
-          let l = append-nil (to-others n m f) in
-          rw (eq-eqb n m q, l) (omega arith)
+          let a = ap length (sent-none n m f q ∙ ap (λ (j : ℕ). sent-bytes j m f) z) in
+          rw (count-same n m f q) (omega arith)
       | inr q ↦
-          let ih = how-many n m f (omega arith) in
-          let l = length-append (to-others n m f) (record { to = n; message = f n } ∷ []) in
-          rw (ne-eqb n m q) (omega arith)
+          let a = ap length (sent-more n m f q ∙ ap (λ (j : ℕ). sent-bytes j m f) z) in
+          let b = length-append (sent-bytes n m f) (post n (f n)) in
+          let d = g n in
+          let p = suc-mul (length (to-others n m f)) k in
+          rw (count-more n m f q) (omega arith)
     ]

@@ -2,13 +2,13 @@
 ghost use mathlib.Core.Path.{_≡_};
 ghost use Prim.Native.Nat.{ℕ, _+_, _-_, _<_, _≤_};
 ghost use lib.ListN.{length};
-ghost use Rattle.servers.specs.Server.{State, Message, to-server, to-others};
+ghost use Rattle.servers.specs.Server.{Message, to-others};
 ghost use Rattle.wire.specs.Write.{write-letters};
 ghost use Rattle.wire_write.specs.Put.{Writes};
 ghost use Rattle.memory.specs.Layout.{servers-in, me-in};
 ghost use Rattle.state.specs.Held.{Held, state-of};
-ghost use Rattle.sending.specs.Letters.{post, asks};
-ghost use Rattle.sending.specs.Others.{message-to};
+ghost use Rattle.sending.specs.Letters.{post, asks-to-all, entries-to-all};
+ghost use Rattle.sending.specs.Others.{message-to, letters-to-all};
 use crate::letter::write_ask_letter;
 use crate::letter::write_entries_letter;
 use state::limits::limits;
@@ -42,11 +42,8 @@ fn write_one(mem: &[u64], out: &mut [u8], at: usize, h: usize, sent: Sent) -> us
 
 fn write_all(mem: &[u64], out: &mut [u8], at: usize, sent: Sent) -> usize
     requires held { ⌜ Held (now mem) ⌝ }
-    requires room { ⌜ at + length (write-letters (to-others (servers-in (now mem)) (me-in (now mem)) (message-to sent (state-of (now mem)))))
-        ≤ length (now out) ⌝ }
-    ensures { λ r. ⌜ Writes at
-        (write-letters (to-others (servers-in (now (mem .entry))) (me-in (now (mem .entry))) (message-to sent (state-of (now (mem .entry))))))
-        (now (out .entry)) (now (out .exit)) r ⌝ }
+    requires room { ⌜ at + length (write-letters (letters-to-all sent (now mem))) ≤ length (now out) ⌝ }
+    ensures { λ r. ⌜ Writes at (write-letters (letters-to-all sent (now (mem .entry)))) (now (out .entry)) (now (out .exit)) r ⌝ }
 {
     let all = limits(mem);
     let mut next = at;
@@ -61,11 +58,8 @@ fn write_all(mem: &[u64], out: &mut [u8], at: usize, sent: Sent) -> usize
 // A candidate's letters, of the term that it stands in.
 pub fn ask_all(mem: &[u64], out: &mut [u8], at: usize) -> usize
     requires held { ⌜ Held (now mem) ⌝ }
-    requires room { ⌜ at + length (write-letters (to-others (servers-in (now mem)) (me-in (now mem)) (λ h. asks (state-of (now mem)))))
-        ≤ length (now out) ⌝ }
-    ensures { λ r. ⌜ Writes at
-        (write-letters (to-others (servers-in (now (mem .entry))) (me-in (now (mem .entry))) (λ h. asks (state-of (now (mem .entry))))))
-        (now (out .entry)) (now (out .exit)) r ⌝ }
+    requires room { ⌜ at + length (write-letters (asks-to-all (now mem))) ≤ length (now out) ⌝ }
+    ensures { λ r. ⌜ Writes at (write-letters (asks-to-all (now (mem .entry)))) (now (out .entry)) (now (out .exit)) r ⌝ }
 {
     write_all(mem, out, at, Sent::Ask)
 }
@@ -73,11 +67,8 @@ pub fn ask_all(mem: &[u64], out: &mut [u8], at: usize) -> usize
 // A leader's.
 pub fn to_all(mem: &[u64], out: &mut [u8], at: usize) -> usize
     requires held { ⌜ Held (now mem) ⌝ }
-    requires room { ⌜ at + length (write-letters (to-others (servers-in (now mem)) (me-in (now mem)) (λ h. to-server (state-of (now mem)) h)))
-        ≤ length (now out) ⌝ }
-    ensures { λ r. ⌜ Writes at
-        (write-letters (to-others (servers-in (now (mem .entry))) (me-in (now (mem .entry))) (λ h. to-server (state-of (now (mem .entry))) h)))
-        (now (out .entry)) (now (out .exit)) r ⌝ }
+    requires room { ⌜ at + length (write-letters (entries-to-all (now mem))) ≤ length (now out) ⌝ }
+    ensures { λ r. ⌜ Writes at (write-letters (entries-to-all (now (mem .entry)))) (now (out .entry)) (now (out .exit)) r ⌝ }
 {
     write_all(mem, out, at, Sent::Entries)
 }

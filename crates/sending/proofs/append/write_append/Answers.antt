@@ -1,8 +1,7 @@
 use native.Mathlib.Omega.{arith}
-use mathlib.Core.Path.{_≡_, ap, sym, _∙_}
+use mathlib.Core.Path.{ap, sym, _∙_}
 use mathlib.Core.List.{List}
 use Prim.Native.Nat.{ℕ, _-_}
-use lib.ListN.{length}
 use Rattle.servers.specs.Server.{Entry, above, entry-at, term-of}
 use Rattle.log.specs.Rows.{log-in}
 use Rattle.log.proofs.Places.{log-in-row}

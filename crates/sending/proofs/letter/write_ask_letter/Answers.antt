@@ -1,6 +1,4 @@
 use native.Mathlib.Omega.{arith}
-use mathlib.Core.List.{List}
-use Prim.Native.Nat.{ℕ}
 use Rattle.servers.specs.Server.{State}
 use Rattle.state.specs.Held.{state-of}
 use Rattle.sending.specs.Letters.{asks}

@@ -7,4 +7,7 @@ use Rattle.sending.proofs.Letters.{sealed}
 pub returns : need.returns
 returns c =
     let m : Message = vote (c .args .term) (c .args .granted) in
-    record { bytes = sealed {m = m} refl (c .write-vote-end .ensures .bytes) (c .seal .ensures .head) (c .seal .ensures .same); next = omega arith }
+    record {
+      bytes = sealed {m = m} refl (c .write-vote-end .ensures .bytes) (c .seal .ensures .head) (c .seal .ensures .same);
+      next = omega arith;
+    }

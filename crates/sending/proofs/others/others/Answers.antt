@@ -1,5 +1,5 @@
-use mathlib.Core.Path.{_≡_, ap, _∙_}
-use Prim.Native.Nat.{ℕ, _-_}
+use mathlib.Core.Path.{ap, _∙_}
+use Prim.Native.Nat.{_-_}
 use Rattle.servers.specs.declared.limits.Limits.{Limits}
 use Rattle.sending.proofs.others.others.Needs as need
 use Rattle.sending.proofs.ToAll.{how-many}

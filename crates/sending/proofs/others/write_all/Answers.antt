@@ -1,6 +1,6 @@
 use native.Mathlib.Omega.{arith}
-use mathlib.Core.Path.{_≡_, ap, _∙_}
-use mathlib.Core.List.{List, _++_}
+use mathlib.Core.Path.{ap, _∙_}
+use mathlib.Core.List.{List}
 use Prim.Native.Nat.{ℕ, _+_}
 use lib.ListN.{length}
 use Rattle.std.proofs.shelf.Lists.{length-append}
@@ -8,7 +8,7 @@ use Rattle.servers.specs.Server.{Message}
 use Rattle.servers.specs.declared.limits.Limits.{Limits}
 use Rattle.memory.specs.Layout.{servers-in, me-in}
 use Rattle.state.specs.Held.{state-of}
-use Rattle.wire_write.proofs.Putting.{writes-as, writes-then, writes-none}
+use Rattle.wire_write.proofs.Putting.{writes-none}
 use Rattle.sending.specs.Letters.{post}
 use Rattle.sending.specs.Others.{message-to}
 use Rattle.sending.proofs.others.write_all.Needs as need

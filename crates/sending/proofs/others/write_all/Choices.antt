@@ -7,4 +7,5 @@ use Rattle.sending.proofs.others.write_all.Given as given
 
 -- the letters to the servers so far
 abbrev pub Inv-loop-h : given.InvT-loop-h
-Inv-loop-h l = Writes (l .at) (sent-bytes (l .h) (me-in (l .mem)) (message-to (l .sent) (state-of (l .mem)))) (l .entry .out) (l .out) (l .next)
+Inv-loop-h l =
+    Writes (l .at) (sent-bytes (l .h) (me-in (l .mem)) (message-to (l .sent) (state-of (l .mem)))) (l .entry .out) (l .out) (l .next)
