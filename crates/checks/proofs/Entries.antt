@@ -3,26 +3,24 @@ use native.Mathlib.Omega.{arith}
 use mathlib.Core.Path.{_≡_, refl, sym, _∙_, ap}
 use mathlib.Core.Bool.{Bool, true, false, _&&_, and-assoc, and-true}
 use mathlib.Core.List.{List, [], _∷_}
-use Prim.Native.Nat.{ℕ, zero, suc, _+_, _-_, _<_, _≤_}
+use Prim.Native.Nat.{ℕ, zero, suc, _+_, _-_, _<_}
 use lib.Dec.{ltb, leb, eqb}
-use lib.ListN.{length, drop, take}
+use lib.ListN.{length, drop}
 use Rattle.std.proofs.shelf.Lists.{length-take-le, length-drop}
-use Rattle.std.proofs.shelf.Tests.{both-ways, eq-eqb}
-use Rattle.std.specs.declared.option.Option.{Option}
+use Rattle.std.proofs.shelf.Tests.{both-ways}
 use Rattle.std.specs.declared.option.Option.the-variants.{Some, None}
-use Rattle.servers.specs.Store.{pick}
 use Rattle.servers.specs.Server as server
 use Rattle.servers.specs.Server.{short, all-short, clients-there, all-short-entries, terms-below, in-a-row, last-of-all}
 use Rattle.servers.specs.Opened.{limits-of}
 use Rattle.servers.specs.declared.limits.Limits.{Limits}
 use Rattle.wire.specs.Read.{Read, got, stuck, read-entry, read-entries}
-use Rattle.wire.specs.Means.{text-of, command-of, entry-of, entries-of, list-read, is-got, Text-in, Command-in, Entry-in, Entries-in}
-use Rattle.wire.specs.declared.parts.Text.{Text}
-use Rattle.wire.specs.declared.parts.Command.{Command}
-use Rattle.wire.specs.declared.parts.Command.the-variants.{Get, Put, Remove, Swap, DropIf}
-use Rattle.wire.specs.declared.parts.Entry.{Entry}
-use Rattle.wire.specs.declared.parts.Entries.{Entries}
-use Rattle.wire.proofs.Passing.{first-there, rest-there, entries-more}
+use Rattle.wire_read.specs.Means.{text-of, command-of, entry-of, entries-of, list-read, is-got, Text-in, Command-in, Entry-in, Entries-in}
+use Rattle.wire_read.specs.declared.parts.Text.{Text}
+use Rattle.wire_read.specs.declared.parts.Command.{Command}
+use Rattle.wire_read.specs.declared.parts.Command.the-variants.{Get, Put, Remove, Swap, DropIf}
+use Rattle.wire_read.specs.declared.parts.Entry.{Entry}
+use Rattle.wire_read.specs.declared.parts.Entries.{Entries}
+use Rattle.wire_read.proofs.Passing.{first-there, rest-there, entries-more}
 use Rattle.checks.specs.Fields.{if-good, brief, sound}
 use Rattle.checks.specs.Refusals.{good-entry, good-entries}
 

@@ -2,10 +2,10 @@
 -- an append that passed is like.
 use native.Mathlib.Omega.{arith}
 use mathlib.Core.Path.{_≡_, refl, sym, _∙_, ap}
-use mathlib.Core.Bool.{Bool, true, _&&_}
+use mathlib.Core.Bool.{Bool, true}
 use mathlib.Core.List.{List, _∷_}
-use Prim.Native.Nat.{ℕ, suc, _+_, _-_, _<_, _≤_}
-use lib.Dec.{ltb, leb, eqb}
+use Prim.Native.Nat.{ℕ, suc, _+_, _-_, _<_}
+use lib.Dec.{eqb}
 use lib.ListN.{length}
 use Rattle.std.proofs.shelf.Tests.{and-parts, ltb-true, leb-true, eqb-true}
 use Rattle.std.specs.declared.result.Result.the-variants.{Ok, Err}
@@ -14,13 +14,13 @@ use Rattle.servers.specs.Server as server
 use Rattle.servers.specs.Server.{in-a-row, last-of-all, turned, after, answer, place, stepped, doing, State}
 use Rattle.servers.specs.Opened.{limits-of}
 use Rattle.servers.specs.declared.limits.Limits.{Limits}
-use Rattle.wire.specs.Means.{means, entry-of, entries-of, Entry-in, Entries-in}
-use Rattle.wire.specs.declared.parts.Entry.{Entry}
-use Rattle.wire.specs.declared.parts.Entries.{Entries}
-use Rattle.wire.specs.declared.parts.Event.{Event}
+use Rattle.wire_read.specs.Means.{means, entry-of, entries-of, Entry-in, Entries-in}
+use Rattle.wire_read.specs.declared.parts.Entry.{Entry}
+use Rattle.wire_read.specs.declared.parts.Entries.{Entries}
+use Rattle.wire_read.specs.declared.parts.Event.{Event}
 use Rattle.checks.specs.Fields.{sound, Sound}
 use Rattle.checks.specs.Outcome.{Checked, Passed-append, refusal-number, refusal-place}
-use Rattle.checks.specs.Refusals.{by-fields, by-state, good-entry, good-entries}
+use Rattle.checks.specs.Refusals.{by-state, good-entry, good-entries}
 use Rattle.checks.specs.declared.refusal.Refusal.{Refusal}
 use Rattle.checks.specs.declared.refusal.Refusal.the-variants.{NoEvent, OutOfRange, OutOfRow, LogFull, LastTerm}
 use Rattle.checks.proofs.Entries.{sound-means, good-more, entries-long}

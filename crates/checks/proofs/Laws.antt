@@ -1,13 +1,13 @@
 -- The refusals in their order.
 use native.Mathlib.Omega.{arith}
-use mathlib.Core.Path.{_≡_, refl, sym, _∙_, ap}
-use mathlib.Core.Bool.{Bool, true, false, not, _&&_, _||_}
+use mathlib.Core.Path.{_≡_, refl}
+use mathlib.Core.Bool.{Bool, true, false}
 use Prim.Native.Nat.{ℕ, zero, suc}
 use lib.Dec.{eqb}
 use Rattle.std.proofs.shelf.Tests.{ne-eqb}
 use Rattle.servers.specs.Store.{pick}
-use Rattle.servers.specs.Server.{Limits, State, Event, timeout, request, comes, restart, garbled, turned-by}
-use Rattle.checks.specs.Refusals.{Refusals-in-order, in-range, by-itself, by-state}
+use Rattle.servers.specs.Server.{timeout, request, comes, restart, garbled, turned-by}
+use Rattle.checks.specs.Refusals.{Refusals-in-order, in-range, by-itself}
 
 -- a refusal by the event alone comes first, where it and the state's don't overlap
 in-order : (b : Bool) (n f s : ℕ) → n ≡ pick (eqb f 0) s f → pick b n 2 ≡ pick (eqb (pick b f 2) 0) s (pick b f 2)

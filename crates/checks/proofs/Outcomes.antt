@@ -1,32 +1,30 @@
 -- From what was decided to what is promised: the refusal's number and place, and what was passed.
 use native.Mathlib.Omega.{arith}
 use mathlib.Core.Path.{_≡_, refl, sym, _∙_, ap}
-use mathlib.Core.Logic.{_≢_}
-use mathlib.Core.Bool.{Bool, true, false, not, _&&_, _||_, and-comm}
-use mathlib.Core.List.{List, [], _∷_}
-use Prim.Native.Nat.{ℕ, zero, suc, _+_, _<_, _≤_}
-use lib.Dec.{ltb, leb, eqb}
+use mathlib.Core.Bool.{Bool, true, false, _&&_, and-comm}
+use mathlib.Core.List.{List}
+use Prim.Native.Nat.{ℕ, _+_}
+use lib.Dec.{leb}
 use lib.ListN.{length}
 use Rattle.std.proofs.shelf.Tests.{and-parts, and-from, eqb-false, ltb-true, leb-true, not-true}
 use Rattle.std.specs.declared.option.Option.the-variants.{Some, None}
 use Rattle.std.specs.declared.result.Result.{Result}
-use Rattle.std.specs.declared.result.Result.the-variants.{Ok, Err}
 use Rattle.servers.specs.Store.{pick}
 use Rattle.servers.specs.Server as server
-use Rattle.servers.specs.Server.{place, good-message, in-a-row, last-of-all, clients-there, all-short-entries, terms-below, out-of-row}
+use Rattle.servers.specs.Server.{place, good-message, last-of-all, clients-there, all-short-entries, terms-below, out-of-row}
 use Rattle.servers.specs.Opened.{limits-of}
 use Rattle.servers.specs.declared.limits.Limits.{Limits}
-use Rattle.wire.specs.Means.{means, message-of, command-of, entries-of, Command-in, Message-in, Entries-in, Event-in}
-use Rattle.wire.specs.declared.parts.Command.{Command}
-use Rattle.wire.specs.declared.parts.Command.the-variants.{Get, Put, Remove, Swap, DropIf}
-use Rattle.wire.specs.declared.parts.Entries.{Entries}
-use Rattle.wire.specs.declared.parts.Event.{Event}
-use Rattle.wire.specs.declared.parts.Event.the-variants.{Timeout, Request, Comes, Restart, Garbled}
-use Rattle.wire.specs.declared.parts.Message.{Message}
-use Rattle.wire.specs.declared.parts.Message.the-variants.{AskVote, Vote, Append, Appended}
+use Rattle.wire_read.specs.Means.{means, message-of, entries-of, Message-in, Entries-in, Event-in}
+use Rattle.wire_read.specs.declared.parts.Command.{Command}
+use Rattle.wire_read.specs.declared.parts.Command.the-variants.{Get, Put, Remove, Swap, DropIf}
+use Rattle.wire_read.specs.declared.parts.Entries.{Entries}
+use Rattle.wire_read.specs.declared.parts.Event.{Event}
+use Rattle.wire_read.specs.declared.parts.Event.the-variants.{Timeout, Request, Comes, Restart, Garbled}
+use Rattle.wire_read.specs.declared.parts.Message.{Message}
+use Rattle.wire_read.specs.declared.parts.Message.the-variants.{AskVote, Vote, Append, Appended}
 use Rattle.checks.specs.Fields.{brief, Brief}
-use Rattle.checks.specs.Outcome.{ordered, outcome, decided, Passed-append, Passed-message, Passed, Handed, Checked}
-use Rattle.checks.specs.Refusals.{can-do, in-range, in-row, by-fields, by-itself, good-entries}
+use Rattle.checks.specs.Outcome.{ordered, outcome, decided, Passed-message, Passed, Handed, Checked}
+use Rattle.checks.specs.Refusals.{can-do, in-range, in-row}
 use Rattle.checks.specs.Steps.{append-checked, message-checked}
 use Rattle.checks.specs.declared.refusal.Refusal.{Refusal}
 use Rattle.checks.proofs.Entries.{interchange, brief-means, entries-long}

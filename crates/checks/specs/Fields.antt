@@ -1,17 +1,17 @@
 -- What is asked of the code's parts by their numbers and lengths alone, whatever bytes they lie in. Assumes nothing: these are
 -- definitions.
-use mathlib.Core.Bool.{Bool, true, false, not, _&&_}
-use Prim.Native.Nat.{ℕ, _<_, _≤_}
-use lib.Dec.{ltb, leb, eqb}
+use mathlib.Core.Bool.{Bool, true, _&&_}
+use Prim.Native.Nat.{_<_, _≤_}
+use lib.Dec.{ltb, leb}
 use Rattle.std.specs.declared.option.Option.{Option}
 use Rattle.std.specs.declared.option.Option.the-variants.{Some, None}
 use Rattle.servers.specs.Store.{pick}
 use Rattle.servers.specs.Server.{last-of-all}
 use Rattle.servers.specs.declared.limits.Limits.{Limits}
-use Rattle.wire.specs.declared.parts.Text.{Text}
-use Rattle.wire.specs.declared.parts.Command.{Command}
-use Rattle.wire.specs.declared.parts.Command.the-variants.{Get, Put, Remove, Swap, DropIf}
-use Rattle.wire.specs.declared.parts.Entry.{Entry}
+use Rattle.wire_read.specs.declared.parts.Text.{Text}
+use Rattle.wire_read.specs.declared.parts.Command.{Command}
+use Rattle.wire_read.specs.declared.parts.Command.the-variants.{Get, Put, Remove, Swap, DropIf}
+use Rattle.wire_read.specs.declared.parts.Entry.{Entry}
 
 -- the value if it passes
 abbrev pub if-good : {V : Type 0} → Bool → V → Option V

@@ -2,21 +2,20 @@
 -- are definitions.
 use mathlib.Core.Path.{_≡_}
 use mathlib.Core.Logic.{_≢_}
-use mathlib.Core.Bool.{Bool, true, false, _&&_}
-use mathlib.Core.List.{List, [], _∷_}
+use mathlib.Core.Bool.{Bool, true}
+use mathlib.Core.List.{List}
 use Prim.Native.Nat.{ℕ, _+_, _≤_, _<_}
-use lib.Dec.{ltb, leb, eqb}
 use lib.ListN.{length}
 use Rattle.std.specs.declared.result.Result.{Result}
 use Rattle.std.specs.declared.result.Result.the-variants.{Ok, Err}
 use Rattle.servers.specs.Store.{pick}
 use Rattle.servers.specs.Server as server
 use Rattle.servers.specs.Server.{place, in-a-row, last-of-all}
-use Rattle.wire.specs.Means.{means, entries-of, message-of}
-use Rattle.wire.specs.declared.parts.Event.{Event}
-use Rattle.wire.specs.declared.parts.Event.the-variants.{Timeout, Request, Comes, Restart, Garbled}
-use Rattle.wire.specs.declared.parts.Message.{Message}
-use Rattle.wire.specs.declared.parts.Message.the-variants.{AskVote, Vote, Append, Appended}
+use Rattle.wire_read.specs.Means.{means, entries-of, message-of}
+use Rattle.wire_read.specs.declared.parts.Event.{Event}
+use Rattle.wire_read.specs.declared.parts.Event.the-variants.{Timeout, Request, Comes, Restart, Garbled}
+use Rattle.wire_read.specs.declared.parts.Message.{Message}
+use Rattle.wire_read.specs.declared.parts.Message.the-variants.{AskVote, Vote, Append, Appended}
 use Rattle.checks.specs.Refusals.{by-fields, good-entries, in-range, in-row}
 use Rattle.checks.specs.Fields.{Brief}
 use Rattle.checks.specs.declared.refusal.Refusal.{Refusal}

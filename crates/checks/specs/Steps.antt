@@ -1,5 +1,5 @@
 -- What the parts of the checks decide, by the code's limits and the bytes. Assumes nothing: these are definitions.
-use mathlib.Core.Bool.{Bool, true, _&&_}
+use mathlib.Core.Bool.{Bool, _&&_}
 use mathlib.Core.List.{List}
 use Prim.Native.Nat.{ℕ, _+_}
 use lib.Dec.{leb}
@@ -8,10 +8,10 @@ use Rattle.std.specs.declared.result.Result.{Result}
 use Rattle.servers.specs.Server.{good-message, in-a-row, last-of-all}
 use Rattle.servers.specs.Opened.{limits-of}
 use Rattle.servers.specs.declared.limits.Limits.{Limits}
-use Rattle.wire.specs.Means.{entries-of, message-of}
-use Rattle.wire.specs.declared.parts.Entries.{Entries}
-use Rattle.wire.specs.declared.parts.Message.{Message}
-use Rattle.wire.specs.declared.parts.Message.the-variants.{Append}
+use Rattle.wire_read.specs.Means.{entries-of, message-of}
+use Rattle.wire_read.specs.declared.parts.Entries.{Entries}
+use Rattle.wire_read.specs.declared.parts.Message.{Message}
+use Rattle.wire_read.specs.declared.parts.Message.the-variants.{Append}
 use Rattle.checks.specs.Fields.{if-good}
 use Rattle.checks.specs.Outcome.{ordered}
 use Rattle.checks.specs.Refusals.{can-do, good-entries, in-row}

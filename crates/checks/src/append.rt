@@ -1,6 +1,6 @@
 // The checks of an append: one pass over its entries, forward in the order of their bytes.
 ghost use mathlib.Core.Path.{_≡_};
-ghost use Rattle.wire.specs.Means.{Entries-in};
+ghost use Rattle.wire_read.specs.Means.{Entries-in};
 ghost use Rattle.checks.specs.Fields.{if-good};
 ghost use Rattle.checks.specs.Steps.{append-checked, entries-checked, good-front, passes};
 use crate::entry::sound_entry;
@@ -10,9 +10,9 @@ use crate::fields::stands;
 use crate::fields::term_there;
 use crate::refusal::Refusal;
 use servers::limits::Limits;
-use wire::forward::next_entry;
-use wire::parts::Entries;
-use wire::parts::Message;
+use wire_read::forward::next_entry;
+use wire_read::parts::Entries;
+use wire_read::parts::Message;
 
 // None if a field of any entry is out of its range, and else whether they stand in a row: a break in the row is kept in mind,
 // since a field of a later entry comes before it.

@@ -5,7 +5,7 @@ ghost use mathlib.Core.List.{[]};
 ghost use lib.Dec.{ltb, leb, eqb};
 ghost use Rattle.servers.specs.Opened.{limits-of};
 ghost use Rattle.servers.specs.Server.{last-of-all};
-ghost use Rattle.wire.specs.Means.{Event-in, Message-in};
+ghost use Rattle.wire_read.specs.Means.{Event-in, Message-in};
 ghost use Rattle.checks.specs.Fields.{brief, if-good};
 ghost use Rattle.checks.specs.Outcome.{Checked, decided, ordered};
 ghost use Rattle.checks.specs.Refusals.{can-do};
@@ -20,9 +20,9 @@ use crate::fields::server_there;
 use crate::fields::term_there;
 use crate::refusal::Refusal;
 use servers::limits::Limits;
-use wire::parts::Command;
-use wire::parts::Event;
-use wire::parts::Message;
+use wire_read::parts::Command;
+use wire_read::parts::Event;
+use wire_read::parts::Message;
 
 fn check_ask(l: Limits, term: u64, index: u64, last_term: u64) -> Result<Message, Refusal>
     ensures { λ r. ⌜ r ≡ message-checked l [] (Message.AskVote term index «last_term») ⌝ }

@@ -9,9 +9,9 @@ use crate::fields::client_there;
 use crate::fields::server_there;
 use crate::fields::term_there;
 use servers::limits::Limits;
-use wire::parts::Command;
-use wire::parts::Entry;
-use wire::parts::Text;
+use wire_read::parts::Command;
+use wire_read::parts::Entry;
+use wire_read::parts::Text;
 
 // A text that may be none.
 fn brief_perhaps(text: Option<Text>) -> Option<Option<Text>>

@@ -7,7 +7,7 @@ ghost use Rattle.servers.specs.Server.{last-of-all};
 ghost use Rattle.checks.specs.Fields.{if-good};
 ghost use Rattle.checks.specs.Refusals.{can-do};
 use servers::limits::Limits;
-use wire::parts::Text;
+use wire_read::parts::Text;
 
 // Whether these servers can start again.
 pub fn can_restart() -> bool

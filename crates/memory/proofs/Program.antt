@@ -55,12 +55,12 @@ says-is can l s r e h f =
     ∙ ap (λ (z : State). answer l z e) (state-back l (s .applied) s r f)
 
 -- after readable events the memory is that of the state, with some region of its store
-record Holds (l : Limits) (s : State) (m : List ℕ) : Type 0 where
-  region : List ℕ
-  fits : Fits l s region
-  is : m ≡ memory-of l s region
+pub record Holds (l : Limits) (s : State) (m : List ℕ) : Type 0 where
+  pub region : List ℕ
+  pub fits : Fits l s region
+  pub is : m ≡ memory-of l s region
 
-holds : (can : ℕ → Bool) (l : Limits) (es : List Event) → Good-limits can l → all-readable es ≡ true
+pub holds : (can : ℕ → Bool) (l : Limits) (es : List Event) → Good-limits can l → all-readable es ≡ true
     → Holds l (state l es) (memory (program can) l es)
 unfolding memory state all-readable
 holds can l [] g h = record { region = empty-region (l .room); fits = fits-new l; is = refl }

@@ -1,4 +1,4 @@
--- Whatever is in a log, on the way, or in the linearization order was asked by a client, with that command.
+-- WHAT WAS ASKED: whatever is in a log, on the way, or in the linearization order was asked by a client, with that command.
 use mathlib.Core.Path.{_≡_, refl, subst}
 use mathlib.Core.Logic.{inl, inr}
 use mathlib.Core.Bool.{true, _&&_}

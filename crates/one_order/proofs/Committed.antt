@@ -1,4 +1,4 @@
--- What is committed in a world is one log: every server's log, up to its commit index, is the old end of it, and later worlds
+-- WHAT IS COMMITTED in a world is one log: every server's log, up to its commit index, is the old end of it, and later worlds
 -- only have entries on top. So the linearization order, which is read off it, only grows.
 use mathlib.Core.Path.{_≡_, sym, ap, subst, _∙_}
 use mathlib.Core.Logic.{inl, inr}
@@ -6,18 +6,16 @@ use mathlib.Core.List.{_++_}
 use Prim.Native.Nat.{ℕ, zero, suc, _≤_, _<_}
 use native.Mathlib.Omega.{arith}
 use lib.Dec.{ltb}
-use Rattle.servers.specs.Server.{State, state, up-to, above}
-use Rattle.servers.specs.World.{Program, Group, limits, World, seen}
+use Rattle.servers.specs.Server.{State, up-to, above}
+use Rattle.servers.specs.World.{Program, Group, World}
 use Rattle.servers.specs.Promise.{at-server}
 use Rattle.std.proofs.shelf.Tests.{cases-eq, ltb-true, ltb-false}
 use Rattle.safety.proofs.Tests.{pick-by}
 use Rattle.safety.proofs.Logs.{contiguous-up-to, up-to-up-to, above-up-to}
-use Rattle.safety.proofs.Induction.{each-server}
 use Rattle.one_order.specs.Order.{order, furthest, committed, linearization, Extends, Later}
 use Rattle.one_order.proofs.Orders.{order-extends}
-use Rattle.one_order.proofs.Events.{commit-up}
-use Rattle.one_order.proofs.Runs.{Run, later-by}
-use Rattle.one_order.proofs.Agreement.{log-contiguous, agree-since, agree-now}
+use Rattle.one_order.proofs.Runs.{Run}
+use Rattle.one_order.proofs.Agreement.{log-contiguous, agree-now, commits-up, committed-stays}
 
 -- THE SERVER THAT HAS COMMITTED FURTHEST
 
@@ -73,28 +71,13 @@ module _ {f : Program} {g : Group} {w : World} (r : Run f g w) where
       subst (λ y. Extends (order y) (order (up-to n (at-server g w v .log)))) (sym (committed-on-top v n low h))
       (order-extends (above n (committed g w)) (up-to n (at-server g w v .log)))
 
--- AS TIME GOES ON
-
-module _ {f : Program} {g : Group} {w′ : World} (r : Run f g w′) (w : World) (later : Later w w′) where
-  -- no commit index falls
-  pub commits-up : (v : ℕ) → at-server g w v .commit ≤ at-server g w′ v .commit
-  commits-up =
-      later-by (λ w w′. (v : ℕ) → at-server g w v .commit ≤ at-server g w′ v .commit)
-      (λ w w′ q v. subst (λ p. at-server g w v .commit ≤ state (limits g v) (seen v p) .commit) (sym q) (omega arith))
-      (λ w x i e m holds. each-server f g x i e (λ v y. at-server g w v .commit ≤ y .commit)
-      (let a = holds i in let b = commit-up (limits g i) (at-server g x i) e in omega arith) (λ v ne. holds v))
-      r w later
-
-  -- what was committed at a server stays in its log
-  pub committed-stays : (v n : ℕ) → n ≤ at-server g w v .commit → up-to n (at-server g w v .log) ≡ up-to n (at-server g w′ v .log)
-  committed-stays v n h = let up = commits-up v in agree-since r w later v v n h (omega arith)
-
-  -- The order of a later world extends that of an earlier one: what the server that had committed furthest had committed then is
-  -- committed there still, in its place.
-  pub only-grows : Extends (linearization g w′) (linearization g w)
-  unfolding linearization committed
-  only-grows =
-      let v : ℕ = ahead g w in
-      let n : ℕ = at-server g w v .commit in
-      subst (λ y. Extends (linearization g w′) (order y)) (sym (committed-stays v n (omega arith)))
-      (extends-server r v n (ahead-low g w (r .group .0)) (commits-up v))
+-- AS TIME GOES ON: the order of a later world extends that of an earlier one. What the server that had committed furthest had committed
+-- then is committed there still, in its place.
+pub only-grows : {f : Program} {g : Group} {w′ : World} → Run f g w′ → (w : World) → Later w w′
+    → Extends (linearization g w′) (linearization g w)
+unfolding linearization committed
+only-grows {f} {g} {w′} r w later =
+    let v : ℕ = ahead g w in
+    let n : ℕ = at-server g w v .commit in
+    subst (λ y. Extends (linearization g w′) (order y)) (sym (committed-stays r w later v n (omega arith)))
+    (extends-server r v n (ahead-low g w (r .group .0)) (commits-up r w later v))

@@ -47,7 +47,7 @@ module _ (P : Entry → Type 0) (l : Limits) (s : State) where
   first-log : (e : Event) → All P (s .log) → Brings e → All P (first-step l s e .log)
   first-log e a b =
       first-by (λ y. All P (y .log)) l s a e (λ c k x q. (subst Brings q b, a))
-      (λ h t i u c es log n q how up. accepted i es log (subst Brings q b) how)
+      (λ h t i u c es log q how. accepted i es log (subst Brings q b) how)
     where
       accepted : (i : ℕ) (es log : List Entry) → All P es → (log ≡ es) ⊎ (log ≡ es ++ up-to i (s .log)) → All P log
       accepted i es log b (inl p) = subst (All P) (sym p) b
@@ -56,7 +56,7 @@ module _ (P : Entry → Type 0) (l : Limits) (s : State) where
   all-log : (y : State) → All P (y .log) → All P (after-all l y .log)
   all-log y a =
       subst (λ (v : View). All P (v .log)) (sym (finished-unseen (sent-now (settles l y))))
-      (settles-by (λ c. All P (c .log)) l y (λ n up. a))
+      (settles-by (λ c. All P (c .log)) l y a)
 
   pub after-log : (e : Event) → All P (s .log) → (turned l s e ≡ 0 → Brings e) → All P (after l s e .log)
   after-log e a b =

@@ -11,11 +11,12 @@ pub mod Due
 pub mod Steps
 pub mod Events
 pub mod Entries
--- all servers, over time: what is committed, was asked, and was told
+-- all servers, over time: what is committed, was asked, is applied, and was told
 pub mod Runs
 pub mod Agreement
 pub mod Committed
 pub mod Asked
+pub mod StateMachines
 pub mod Told
 pub mod RealTime
 -- the statements

@@ -1,4 +1,4 @@
--- The statements, from what the other files show.
+-- THE STATEMENTS, from what the other files show. Each is the contract of a function in src/lib.rt.
 use mathlib.Core.Path.{_≡_, sym, subst, _∙_}
 use mathlib.Core.Bool.{Bool}
 use mathlib.Core.List.{List, [], _∷_, _++_, map}
@@ -18,7 +18,8 @@ use Rattle.one_order.proofs.Orders.{order-rises, order-once}
 use Rattle.one_order.proofs.Runs.{Run}
 use Rattle.one_order.proofs.Committed.{only-grows, extends-server}
 use Rattle.one_order.proofs.Asked.{Was-asked, entries-asked, linearization-asked, in-order-asked}
-use Rattle.one_order.proofs.Told.{servers-applied, applied-up, applied-stays, applied-agree, told-applied, told-right, told-there}
+use Rattle.one_order.proofs.StateMachines.{servers-applied, applied-up, applied-stays, applied-agree}
+use Rattle.one_order.proofs.Told.{told-applied, told-right, told-there}
 use Rattle.one_order.proofs.RealTime.{in-real-time}
 
 abbrev run : (can : ℕ → Bool) (f : Program) (g : Group) (w : World) → Right can f → Good-group can g → Lived f g w → readable-world w

@@ -1,4 +1,4 @@
--- Runs: the worlds that a good group of servers of a right program can get to. What the proof says of such a world it says by
+-- RUNS: the worlds that a good group of servers of a right program can get to. What the proof says of such a world it says by
 -- induction on what happened (`runs-by`), or on what happened since an earlier one (`later-by`).
 use mathlib.Core.Path.{_≡_, refl}
 use mathlib.Core.Bool.{Bool}

@@ -10,7 +10,7 @@ use lib.Dec.{eqb}
 use Rattle.servers.specs.Store.{pick, reply}
 use Rattle.servers.specs.Server.{Cached}
 use Rattle.servers.specs.World.{Asked, store-after, reply-in, there, each-once}
-use Rattle.std.proofs.shelf.Tests.{cases-bool, and-from, false≢true, both-ways, not-true, not-from-false, or-cases, eqb-true, ltb-true}
+use Rattle.std.proofs.shelf.Tests.{cases-bool, and-from, false≢true, both-ways, not-true, not-from-false, or-cases, eqb-true}
 use Rattle.std.proofs.shelf.Ways.{tells}
 use Rattle.safety.proofs.Tests.{bool-by}
 use Rattle.one_order.specs.Order.{remembered, session, new-to, times}
@@ -41,7 +41,7 @@ new-above : (x : Cached) (j k : ℕ) → new-to x k ≡ true → (x .there ≡ t
 new-above x j k f a =
     elim (or-cases _ _ f) [
       | inl y ↦ absurd (both-ways _ (not-true _ y) (a .0))
-      | inr y ↦ (let b = a .1 in let z = ltb-true (x .id) k y in omega arith)
+      | inr y ↦ (let b = a .1 in let z : x .id < k = grind (arith, tells) in omega arith)
     ]
 
 -- Then a session remembers the highest of its client's numbers.

@@ -1,12 +1,10 @@
--- WHAT AN EVENT DOES to a server's log, commit index and state machine before anything is applied: the one pass over all events and
--- messages in this proof. Nothing but a request, and entries that are accepted, changes the log; the commit index never falls; the
--- applied index, the store and the sessions stay.
+-- WHAT AN EVENT DOES to a server's log and state machine before anything is applied: the one pass over all events and messages in this
+-- proof. Nothing but a request, and entries that are accepted, changes the log; the applied index, the store and the sessions stay.
 use mathlib.Core.Path.{_≡_, refl}
 use mathlib.Core.Logic.{_⊎_, inl, inr}
 use mathlib.Core.Bool.{Bool, true, false}
-use mathlib.Core.List.{List, [], _∷_, _++_}
-use Prim.Native.Nat.{ℕ, suc, _-_, _≤_}
-use native.Mathlib.Omega.{arith}
+use mathlib.Core.List.{List, _∷_, _++_}
+use Prim.Native.Nat.{ℕ, suc, _-_}
 use lib.Dec.{ltb, eqb}
 use Rattle.servers.specs.Store.{pick, Command, Store}
 use Rattle.servers.specs.Server.{Entry, Cached, Limits, State, Message, ask-vote, vote, append, appended}
@@ -14,23 +12,21 @@ use Rattle.servers.specs.Server.{Event, timeout, request, comes, restart, garbl
 use Rattle.servers.specs.Server.{last-index, up-to, entry-at, term-is, has-new, at-least, at-most, nth, next-for, grants, settled-to}
 use Rattle.servers.specs.Server.{with-term, with-voted, with-match, with-next, with-send, with-commit, with-request, with-log}
 use Rattle.servers.specs.Server.{following, advanced, wants, voted-on, after-append, heard, first-step, settles, sent-now}
-use Rattle.std.proofs.shelf.Ways.{tells}
 use Rattle.safety.proofs.Tests.{pick-by}
 
 -- what matters here of a server's state
 pub record Core : Type 0 where
   pub log : List Entry
-  pub commit : ℕ
   pub applied : ℕ
   pub store : Store
   pub cache : List Cached
 
 abbrev pub core : State → Core
-core s = record { log = s .log; commit = s .commit; applied = s .applied; store = s .store; cache = s .cache }
+core s = record { log = s .log; applied = s .applied; store = s .store; cache = s .cache }
 
--- the same with another log and commit index
-abbrev pub core-with : List Entry → ℕ → State → Core
-core-with log n s = record { log = log; commit = n; applied = s .applied; store = s .store; cache = s .cache }
+-- the same with another log
+abbrev core-with : List Entry → State → Core
+core-with log s = record { log = log; applied = s .applied; store = s .store; cache = s .cache }
 
 -- the entry that server l makes of a request
 abbrev pub made-entry : Limits → State → ℕ → ℕ → Command → Entry
@@ -41,10 +37,10 @@ choose : (Q : Core → Type 0) (b : Bool) (x y : State) → Q (core x) → Q (co
 choose Q b x y p q = pick-by (λ (z : State). Q (core z)) b x y (λ e. p) (λ e. q)
 
 -- THE FIRST HALF OF AN EVENT. What holds of the old core, of that with a requested entry on top, and of every one with accepted
--- entries and a commit index no lower, holds afterwards.
+-- entries, holds afterwards.
 module _ (Q : Core → Type 0) (l : Limits) (s : State) (old : Q (core s)) where
   abbrev Requested : Event → Type 0
-  Requested e = (c k : ℕ) (x : Command) → e ≡ request c k x → Q (core-with (made-entry l s c k x ∷ s .log) (s .commit) s)
+  Requested e = (c k : ℕ) (x : Command) → e ≡ request c k x → Q (core-with (made-entry l s c k x ∷ s .log) s)
 
   -- entries that are accepted replace the log, or what was above the entry before them
   abbrev Replaced : ℕ → List Entry → List Entry → Type 0
@@ -52,8 +48,7 @@ module _ (Q : Core → Type 0) (l : Limits) (s : State) (old : Q (core s)) where
 
   abbrev Accepted : Event → Type 0
   Accepted e =
-      (h t i u c : ℕ) (es log : List Entry) (n : ℕ) → e ≡ comes h (append t i u es c) → Replaced i es log → s .commit ≤ n
-      → Q (core-with log n s)
+      (h t i u c : ℕ) (es log : List Entry) → e ≡ comes h (append t i u es c) → Replaced i es log → Q (core-with log s)
 
   advanced-by : (t : ℕ) → Q (core (advanced t s))
   advanced-by t = choose Q (ltb (s .term) t) (with-term t s) s old old
@@ -62,8 +57,7 @@ module _ (Q : Core → Type 0) (l : Limits) (s : State) (old : Q (core s)) where
       → Q (core (after-append s h t es c log))
   append-by h t i u c es log accepted how =
       let n : ℕ = at-least (s .commit) (at-most c (last-index log)) in
-      let up : s .commit ≤ n = grind (arith, tells) in
-      let new : Q (core-with log n s) = accepted h t i u c es log n refl how up in
+      let new : Q (core-with log s) = accepted h t i u c es log refl how in
       choose Q (has-new s es) _ _
       (pick-by (λ (y : State). Q (core (following h (with-log log n y)))) (ltb (s .term) t) (with-term t s) s (λ r. new) (λ r. new))
       (advanced-by t)
@@ -93,28 +87,16 @@ module _ (Q : Core → Type 0) (l : Limits) (s : State) (old : Q (core s)) where
   first-by restart requested accepted = old
   first-by (garbled n) requested accepted = old
 
--- THEN A LEADER COMMITS what it may: nothing but its commit index moves, and that up.
-settled-up : (l : Limits) (s : State) (es : List Entry) → s .commit ≤ settled-to l s es
-unfolding settled-to
-settled-up l s [] = omega arith
-settled-up l s (e ∷ es) = let ih = settled-up l s es in grind (arith, tells)
-
-pub settles-by : (Q : Core → Type 0) (l : Limits) (s : State) → ((n : ℕ) → s .commit ≤ n → Q (core-with (s .log) n s))
-    → Q (core (sent-now (settles l s)))
-settles-by Q l s f =
-    let settled : Q (core (settles l s)) =
-    choose Q (eqb (s .kind) 2) (with-commit (settled-to l s (s .log)) s) s
-    (f (settled-to l s (s .log)) (settled-up l s (s .log))) (f (s .commit) (omega arith)) in
+-- THEN A LEADER COMMITS what it may, and notes that it has sent: neither is seen here.
+pub settles-by : (Q : Core → Type 0) (l : Limits) (s : State) → Q (core s) → Q (core (sent-now (settles l s)))
+settles-by Q l s old =
+    let settled : Q (core (settles l s)) = choose Q (eqb (s .kind) 2) (with-commit (settled-to l s (s .log)) s) s old old in
     choose Q (eqb (settles l s .kind) 2) (with-send false (settles l s)) (settles l s) settled settled
 
--- So until anything is applied the commit index is no lower than at s, and the applied index, the store and the sessions are as then.
+-- So until anything is applied the applied index, the store and the sessions are as they were at s.
 abbrev pub Steady : State → Core → Type 0
-Steady s y = (s .commit ≤ y .commit) × (y .applied ≡ s .applied) × (y .store ≡ s .store) × (y .cache ≡ s .cache)
+Steady s y = (y .applied ≡ s .applied) × (y .store ≡ s .store) × (y .cache ≡ s .cache)
 
 pub first-steady : (l : Limits) (s : State) (e : Event) → Steady s (core (first-step l s e))
 first-steady l s e =
-    first-by (Steady s) l s (omega arith, refl, refl, refl) e (λ c k x q. (omega arith, refl, refl, refl))
-    (λ h t i u c es log n q how up. (up, refl, refl, refl))
-
-pub settles-steady : (l : Limits) (s y : State) → Steady s (core y) → Steady s (core (sent-now (settles l y)))
-settles-steady l s y o = settles-by (Steady s) l y (λ n up. let p = o .0 in (omega arith, o .1, o .2, o .3))
+    first-by (Steady s) l s (refl, refl, refl) e (λ c k x q. (refl, refl, refl)) (λ h t i u c es log q how. (refl, refl, refl))

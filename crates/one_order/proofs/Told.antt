@@ -1,104 +1,23 @@
--- Every server's state machine is that of its applied entries, and whoever was told, by whichever server and whenever, was told
--- what the linearization order says.
-use mathlib.Core.Path.{_≡_, sym, ap, subst, _∙_}
+-- WHAT CLIENTS ARE TOLD: whoever was told, by whichever server and whenever, was told what the linearization order says. The server that
+-- told had applied the command; the order of what a server has applied only grows, and the linearization order extends it; and commands
+-- on top change no reply.
+use mathlib.Core.Path.{_≡_, refl, sym}
 use mathlib.Core.Logic.{inl, inr}
-use mathlib.Core.Bool.{true}
-use mathlib.Core.List.{List, [], _∷_, _++_}
-use Prim.Native.Nat.{ℕ, _≤_, _<_}
-use native.Mathlib.Omega.{arith}
-use Rattle.servers.specs.Server.{Entry, State, Event, Said, state, answer, up-to, above}
-use Rattle.servers.specs.World.{Program, Group, limits, Happening, World, new-world, seen, says-now, happens}
-use Rattle.servers.specs.World.{Asked, Told, reply-in, there}
+use mathlib.Core.Bool.{true, _&&_}
+use mathlib.Core.List.{List, [], _∷_}
+use Prim.Native.Nat.{ℕ, _<_}
+use lib.Dec.{eqb}
+use Rattle.servers.specs.Server.{Entry, State, Event, Said, Answer, refused, not-leader, does, up-to}
+use Rattle.servers.specs.World.{Program, Group, Happening, World, happens, Asked, Said-in, Told-by, Told, reply-in, there}
+use Rattle.servers.specs.World.{told-in, is-told, was-told}
 use Rattle.servers.specs.Promise.{at-server}
-use Rattle.safety.specs.Safety.{Until, at-moment}
-use Rattle.safety.proofs.Logs.{Contiguous, up-to-all}
-use Rattle.safety.proofs.Induction.{here, each-server}
-use Rattle.one_order.specs.Order.{order, applied-order, committed, linearization, Extends, Later}
+use Rattle.std.proofs.shelf.Tests.{and-parts, false≢true, or-cases, eqb-true}
+use Rattle.one_order.specs.Order.{order, applied-order, committed, linearization, Extends}
 use Rattle.one_order.proofs.Sequences.{reply-stays, replied-there}
-use Rattle.one_order.proofs.Orders.{order-once, order-extends}
-use Rattle.one_order.proofs.Applying.{made-by-none, Clients-below}
-use Rattle.one_order.proofs.Due.{above-applied}
-use Rattle.one_order.proofs.Events.{Applied, Tells, event-applies}
-use Rattle.one_order.proofs.Runs.{Run, Moment, runs-by, later-by, says-so, one-later, world-then, run-then}
-use Rattle.one_order.proofs.Agreement.{log-contiguous, agree-ever}
-use Rattle.one_order.proofs.Committed.{committed-stays, extends-server}
-use Rattle.one_order.proofs.Asked.{clients-below}
-
--- ONE HAPPENING: what `event-applies` asks of the log is so, since what is committed stays in it.
-
-module _ {f : Program} {g : Group} {w : World} {i : ℕ} {e : Event} (m : Moment f g w i e)
-    (was : Applied (g .clients) (at-server g w i)) where
-  abbrev now : State
-  now = at-server g (happens f g w i e) i
-
-  applies-here : Applied (g .clients) now × Tells now (says-now f g w i e) × (at-server g w i .applied ≤ now .applied)
-  applies-here =
-      let s : State = at-server g w i in
-      subst (λ a. Applied (g .clients) now × Tells now a × (s .applied ≤ now .applied)) (sym (says-so m))
-      (subst
-      (λ (y : State). Contiguous (y .log) → Clients-below (g .clients) (y .log)
-      → up-to (s .applied) (y .log) ≡ up-to (s .applied) (s .log)
-      → Applied (g .clients) y × Tells y (answer (limits g i) s e) × (s .applied ≤ y .applied))
-      (sym (here f g w i e)) (event-applies (g .clients) (limits g i) s was e) (log-contiguous (m .new) i) (clients-below (m .new) i)
-      (sym (committed-stays (m .new) w (one-later f g w i e) i (s .applied) (was .low))))
-
--- STATE MACHINES
-
--- Every server's store and sessions are those of its applied entries.
-pub servers-applied : {f : Program} {g : Group} {w : World} → Run f g w → (v : ℕ) → Applied (g .clients) (at-server g w v)
-unfolding seen state order
-servers-applied {f} {g} = runs-by (λ w. (v : ℕ) → Applied (g .clients) (at-server g w v)) first later
-  where
-    first : (v : ℕ) → Applied (g .clients) (at-server g new-world v)
-    first v = record { low = omega arith; made = rw (up-to-all 0 [] (omega arith)) (made-by-none (g .clients)) }
-
-    later : (w : World) (i : ℕ) (e : Event) → Moment f g w i e → ((v : ℕ) → Applied (g .clients) (at-server g w v))
-        → (v : ℕ) → Applied (g .clients) (at-server g (happens f g w i e) v)
-    later w i e m old =
-        each-server f g w i e (λ v y. Applied (g .clients) y) (subst (Applied (g .clients)) (here f g w i e) (applies-here m (old i) .0))
-        (λ v ne. old v)
-
--- and were so at every moment
-pub applied-then : {f : Program} {g : Group} {w : World} → Run f g w → (a : List Happening) → Until a (w .past) → (v : ℕ)
-    → Applied (g .clients) (at-moment g a v)
-applied-then {f} {g} r a u v =
-    let x = world-then r a u in subst (λ p. Applied (g .clients) (at-moment g p v)) (x .is) (servers-applied (run-then r x) v)
-
--- No two servers ever apply different entries at one index.
-pub applied-agree : {f : Program} {g : Group} {w : World} → Run f g w → (a b : List Happening) → Until a (w .past) → Until b (w .past)
-    → (u v n : ℕ) → n ≤ at-moment g a u .applied → n ≤ at-moment g b v .applied
-    → up-to n (at-moment g a u .log) ≡ up-to n (at-moment g b v .log)
-applied-agree r a b ua ub u v n p q =
-    let x = applied-then r a ua u .low in
-    let y = applied-then r b ub v .low in
-    agree-ever r a b ua ub u v n (omega arith) (omega arith)
-
-module _ {f : Program} {g : Group} {w′ : World} (r : Run f g w′) (w : World) (later : Later w w′) (v : ℕ) where
-  -- no applied index falls
-  pub applied-up : at-server g w v .applied ≤ at-server g w′ v .applied
-  applied-up =
-      later-by (λ w w′. (v : ℕ) → at-server g w v .applied ≤ at-server g w′ v .applied)
-      (λ w w′ q v. subst (λ p. at-server g w v .applied ≤ at-moment g p v .applied) (sym q) (omega arith))
-      (λ w x i e m holds. each-server f g x i e (λ v y. at-server g w v .applied ≤ y .applied)
-      (subst (λ (y : State). at-server g w i .applied ≤ y .applied) (here f g x i e)
-      (let a = holds i in let b = applies-here m (servers-applied (m .old) i) .2 in omega arith)) (λ v ne. holds v))
-      r w later v
-
-  -- what a server has applied stays in its place
-  pub applied-stays : up-to (at-server g w v .applied) (at-server g w v .log) ≡ up-to (at-server g w v .applied) (at-server g w′ v .log)
-  applied-stays = committed-stays r w later v (at-server g w v .applied) (applied-then r (w .past) later v .low)
-
-  -- so what it has done only grows
-  applied-grows : Extends (applied-order (at-server g w′ v)) (applied-order (at-server g w v))
-  applied-grows =
-      let s : State = at-server g w v in
-      let t : State = at-server g w′ v in
-      let more : List Entry = above (s .applied) (up-to (t .applied) (t .log)) in
-      let e : more ++ up-to (s .applied) (s .log) ≡ up-to (t .applied) (t .log) =
-      ap (λ y. more ++ y) applied-stays ∙ above-applied (s .applied) (t .applied) (t .log) (log-contiguous r v) applied-up in
-      subst (λ y. Extends (order y) (applied-order s)) e (order-extends more (up-to (s .applied) (s .log)))
-
--- REPLIES
+use Rattle.one_order.proofs.Orders.{order-once}
+use Rattle.one_order.proofs.Runs.{Run, Moment, runs-by, one-later}
+use Rattle.one_order.proofs.Committed.{extends-server}
+use Rattle.one_order.proofs.StateMachines.{applies-here, servers-applied, applied-grows}
 
 -- a reply stands in every order that extends the one that it was read off
 reply-stands : (es : List Entry) (os : List Asked) (s : Said) → Extends (order es) os
@@ -136,3 +55,42 @@ told-right {f} {g} {w} r s t =
 pub told-there : {f : Program} {g : Group} {w : World} → Run f g w → (s : Said) → Told s (w .past)
     → there (linearization g w) (s .client) (s .id) ≡ true
 told-there {f} {g} {w} r s t = replied-there (linearization g w) (s .client) (s .id) (s .reply) (told-right r s t)
+
+-- AS A TEST
+
+-- a reply to client c's command k
+abbrev Reply-to : ℕ → ℕ → (Said → Type 0) → Type 0
+Reply-to c k P = (s : Said) × P s × (s .client ≡ c) × (s .id ≡ k)
+
+-- who was told was told something
+said-of : (ss : List Said) (c k : ℕ) → told-in ss c k ≡ true → Reply-to c k (λ s. Said-in s ss)
+unfolding told-in Said-in
+said-of [] c k q = absurd (false≢true q)
+said-of (s ∷ ss) c k q =
+    elim (or-cases (eqb c (s .client) && eqb k (s .id)) (told-in ss c k) q) [
+      | inl p ↦ (let r = and-parts (eqb c (s .client)) (eqb k (s .id)) p in
+          (s, inl refl, sym (eqb-true _ _ (r .0)), sym (eqb-true _ _ (r .1))))
+      | inr p ↦ (let r = said-of ss c k p in (r .0, inr (r .1), r .2, r .3))
+    ]
+
+told-of : (a : Answer) (c k : ℕ) → is-told a c k ≡ true → Reply-to c k (λ s. Told-by s a)
+unfolding is-told Told-by
+told-of (refused i j) c k q = absurd (false≢true q)
+told-of not-leader c k q = absurd (false≢true q)
+told-of (does ss ls) c k q = said-of ss c k q
+
+was-told-of : (past : List Happening) (c k : ℕ) → was-told past c k ≡ true → Reply-to c k (λ s. Told s past)
+unfolding was-told Told
+was-told-of [] c k q = absurd (false≢true q)
+was-told-of (h ∷ hs) c k q =
+    elim (or-cases (is-told (h .answer) c k) (was-told hs c k) q) [
+      | inl p ↦ (let r = told-of (h .answer) c k p in (r .0, inl (r .1), r .2, r .3))
+      | inr p ↦ (let r = was-told-of hs c k p in (r .0, inr (r .1), r .2, r .3))
+    ]
+
+-- Who was told is in the order.
+pub was-told-there : {f : Program} {g : Group} {w : World} → Run f g w → (c k : ℕ) → was-told (w .past) c k ≡ true
+    → there (linearization g w) c k ≡ true
+was-told-there {f} {g} {w} r c k q =
+    let s = was-told-of (w .past) c k q in
+    rw (s .2, s .3) at (told-there r (s .0) (s .1))

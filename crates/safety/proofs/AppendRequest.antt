@@ -1,94 +1,38 @@
 -- ENTRIES COME FROM A LEADER. They are taken if the entry before them is there, of the same term; then the log becomes a part of that
--- leader's log, or was one already.
+-- leader's log, or was one already (AppendedLog), and the server acknowledges them and follows.
 --
--- Two facts carry it. What is acknowledged is in the log: it agrees with the leader's up to the index in the reply (`holds`). And taking
--- entries never loses agreement with that leader (`append-keeps-agreement`): either nothing is replaced, or the new log is the leader's
--- up to an index beyond all that agreed, since the entry there was not in the old one. How many entries a letter has never matters.
+-- What it acknowledged of earlier terms it keeps: this leader's election now counts among those that have to have inherited it, so the
+-- leader's log has it, and agreement with the leader's log is never lost.
 use mathlib.Core.Path.{_≡_, refl, sym, ap, subst, _∙_}
 use mathlib.Core.Logic.{_⊎_, inl, inr}
-use mathlib.Core.Bool.{Bool, true, false, not, _||_}
-use mathlib.Core.List.{List, [], _∷_, _++_, append-nil}
-use Prim.Native.Nat.{ℕ, suc, _+_, _≤_, _<_}
+use mathlib.Core.Bool.{Bool, true, false, _||_}
+use mathlib.Core.List.{List, [], _∷_, _++_}
+use Prim.Native.Nat.{ℕ, suc, _≤_, _<_}
 use native.Mathlib.Omega.{arith}
 use lib.Dec.{ltb, eqb}
 use lib.ListN.{length}
 use Rattle.servers.specs.Store.{pick}
-use Rattle.servers.specs.Server.{Entry, State, Letter, Message, append, appended, last-index, last-term, up-to, entry-at, empty, term-is}
-use Rattle.servers.specs.Server.{has-new, at-least, at-most, following, with-log, with-term, after-append, appends, back, in-a-row}
+use Rattle.servers.specs.Server.{Entry, State, Letter, Message, append, appended, last-index, up-to, entry-at, term-is, has-new, at-least}
+use Rattle.servers.specs.Server.{at-most, following, with-log, with-term, after-append, appends, back, in-a-row}
 use Rattle.servers.specs.World.{Sent, In, from}
-use Rattle.std.proofs.shelf.Tests.{cases-order, cases-lt, and-parts, false≢true, true≢false, both-ways, and-cases, not-true, not-false}
+use Rattle.std.proofs.shelf.Tests.{cases-order}
 use Rattle.std.proofs.shelf.Ways.{tells}
 use Rattle.safety.proofs.Tests.{bool-by, pick-by}
 use Rattle.safety.proofs.Letters.{in-left, in-either, from-by, all-one, old-or-new}
-use Rattle.safety.proofs.Logs.{up-to-up-to, agree-below, agree-entry, agree-at-zero, up-to-zero, entry-within, entry-of-term}
-use Rattle.safety.proofs.Logs.{term-of-entry, entry-on-top, last-up-to-below, last-of-row}
-use Rattle.safety.proofs.Ghost.{Election, Ghost, Ack, replied, led, Acked, Committed-prefix, Inherits, Own-step}
-use Rattle.safety.proofs.Invariant.{Valid-log, Ghost-invariant, Server-invariant, Valid-append, Letter-invariant, view, horizon}
-use Rattle.safety.proofs.LogMatching.{logs-match, valid-prefix, agrees-within, inherited-in-log}
+use Rattle.safety.proofs.Logs.{agree-below, entry-within}
+use Rattle.safety.proofs.Ghost.{Election, Ack, replied, led, Acked, Committed-prefix, Inherits, Own-step}
+use Rattle.safety.proofs.Invariant.{Server-invariant, Valid-append, Letter-invariant, view, horizon}
+use Rattle.safety.proofs.Prefixes.{committed-alike}
+use Rattle.safety.proofs.LogMatching.{agrees-within, inherited-in-log}
 use Rattle.safety.proofs.LeaderCompleteness.{committed-in-log}
 use Rattle.safety.proofs.Growth.{prefix-stays}
 use Rattle.safety.proofs.Frame.{acked-within}
 use Rattle.safety.proofs.Turn.{Before, Turn, move, change, say, owes-nothing, later-term, Silent}
-
--- WHAT A VALID LETTER SAYS OF THE LEADER'S LOG
-
--- its last entry is there
-pub record Fits (γ : Ghost) (t : ℕ) (es : List Entry) : Type 0 where
-  pub within : last-index es ≤ last-index (γ .leader-log t)
-  pub none : length es ≡ 0 → last-index es ≡ 0
-  pub last : 0 < length es → (x : Entry) × (entry-at (last-index es) (γ .leader-log t) ≡ x ∷ []) × (x .term ≡ last-term es)
-
-fits : {k : ℕ} {γ : Ghost} {sent : List Sent} {h t i u : ℕ} (es : List Entry) {c : ℕ} → Valid-append k γ sent h t i u es c
-    → in-a-row i es ≡ true → Fits γ t es
-fits [] v row = record { within = omega arith; none = λ e. refl; last = λ p. absurd (omega arith) }
-fits {k} {γ} {sent} {h} {t} {i} (e ∷ es) v row =
-    let n : ℕ = i + length (e ∷ es) in
-    let top : e .index ≡ n = last-of-row i e es row in
-    let far = v .within (omega arith) in
-    let same : up-to n ((e ∷ es) ++ up-to i (γ .leader-log t)) ≡ up-to n (γ .leader-log t) =
-    ap (up-to n) (v .entries (omega arith)) ∙ up-to-up-to n n (γ .leader-log t) (omega arith) in
-    record {
-      within = omega arith;
-      none = λ e. absurd (omega arith);
-      last = λ z. (
-        e,
-        sym (agree-entry (e .index) n ((e ∷ es) ++ up-to i (γ .leader-log t)) (γ .leader-log t) (omega arith) same)
-            ∙ entry-on-top e es (up-to i (γ .leader-log t)),
-        refl,
-      );
-    }
-
-module _ {k : ℕ} {γ : Ghost} {sent : List Sent} (g : Ghost-invariant k γ sent) {h t i u : ℕ} where
-  -- put on nothing, or on a log that has the entry before, its entries make the leader's log up to their last
-  from-start : (es : List Entry) {c : ℕ} → Valid-append k γ sent h t i u es c → in-a-row i es ≡ true → i ≡ 0 → 0 < length es
-      → es ≡ up-to (last-index es) (γ .leader-log t)
-  from-start [] v row at-zero some = absurd (omega arith)
-  from-start (e ∷ es) v row at-zero some =
-      let none : up-to i (γ .leader-log t) ≡ [] = rw at-zero (up-to-zero (γ .leader-log t) (g .leader-logs t .contiguous)) in
-      sym (append-nil (e ∷ es)) ∙ (ap (λ y. (e ∷ es) ++ y) (sym none)
-      ∙ (v .entries some ∙ ap (λ y. up-to y (γ .leader-log t)) (sym (last-of-row i e es row))))
-
-  from-match : (es : List Entry) {c : ℕ} → Valid-append k γ sent h t i u es c → in-a-row i es ≡ true → 0 < i
-      → {log : List Entry} {q : ℕ} → Valid-log γ log q → term-is (entry-at i log) u ≡ true → 0 < length es
-      → es ++ up-to i log ≡ up-to (last-index es) (γ .leader-log t)
-  from-match [] v row pos valid m some = absurd (omega arith)
-  from-match (e ∷ es) v row pos {log} valid m some =
-      let x = v .before some pos in
-      let y = entry-of-term i log u m in
-      let same = logs-match valid (g .leader-logs t) i (y .0) (x .0) (y .1) (x .1) (y .2 ∙ sym (x .2)) in
-      ap (λ z. (e ∷ es) ++ z) same ∙ (v .entries some ∙ ap (λ z. up-to z (γ .leader-log t)) (sym (last-of-row i e es row)))
+use Rattle.safety.proofs.AppendedLog.{Fits, fits, from-start, from-match, After, nothing-new, taken, told-committed}
 
 -- THE LETTER IS TAKEN, in the server's own term; `log` is the log that the entries make
 abbrev reply : ℕ → ℕ → ℕ → Bool → List Letter
 reply h t n ok = record { to = h; message = appended t n ok } ∷ []
-
-some-entries : (xs : List Entry) → not (empty xs) ≡ true → 0 < length xs
-some-entries [] q = absurd (false≢true q)
-some-entries (x ∷ xs) q = omega arith
-
-not-empty : (xs : List Entry) → 0 < length xs → not (empty xs) ≡ true
-not-empty [] q = absurd (omega arith)
-not-empty (x ∷ xs) q = refl
 
 module _ {k me : ℕ} {was : Before} {s : State} {sent : List Sent} (a : Turn k me was s sent) (h i u : ℕ) (es : List Entry) (c : ℕ)
     (log : List Entry) (letter : Valid-append k (a .γ) sent h (s .term) i u es c) (fit : Fits (a .γ) (s .term) es)
@@ -105,71 +49,6 @@ module _ {k me : ℕ} {was : Before} {s : State} {sent : List Sent} (a : Turn k 
 
   abbrev more : List Sent
   more = sent ++ from me ls
-
-  -- what a log has to have to be the one afterwards
-  record After (l : List Entry) : Type 0 where
-    valid : Valid-log (a .γ) l (s .term)
-    holds : up-to m l ≡ up-to m leaders
-    append-keeps-agreement : (n : ℕ) → up-to n (s .log) ≡ up-to n leaders → up-to n l ≡ up-to n leaders
-
-  -- nothing is new: the last entry is there, and so all before it
-  nothing-new : has-new s es ≡ false → After (s .log)
-  nothing-new e = record { valid = a .mine .log; holds = holds (cases-lt 0 (length es)); append-keeps-agreement = λ n q. q }
-    where
-      there : 0 < length es → (not (empty es) ≡ false) ⊎ (not (term-is (entry-at m (s .log)) (last-term es)) ≡ false)
-          → term-is (entry-at m (s .log)) (last-term es) ≡ true
-      there p (inl q) = absurd (true≢false (sym (not-empty es p) ∙ q))
-      there p (inr q) = not-false _ q
-
-      holds : (0 < length es) ⊎ (length es ≤ 0) → up-to m (s .log) ≡ up-to m leaders
-      holds (inl p) =
-          let x = fit .last p in
-          let old = there p (and-cases (not (empty es)) (not (term-is (entry-at m (s .log)) (last-term es))) e) in
-          let y = entry-of-term m (s .log) (last-term es) old in
-          logs-match (a .mine .log) (a .ghost .leader-logs (s .term)) m (y .0) (x .0) (y .1) (x .1) (y .2 ∙ sym (x .2))
-      holds (inr q) =
-          rw (fit .none (omega arith))
-          (agree-at-zero (s .log) leaders (a .mine .log .contiguous) (a .ghost .leader-logs (s .term) .contiguous))
-
-  -- something is new: the log is the leader's up to the last entry, and that one was not there
-  module _ (e : has-new s es ≡ true) where
-    some : 0 < length es
-    some = some-entries es (and-parts (not (empty es)) (not (term-is (entry-at m (s .log)) (last-term es))) e .0)
-
-    was-not-there : term-is (entry-at m (s .log)) (last-term es) ≡ false
-    was-not-there = not-true _ (and-parts (not (empty es)) (not (term-is (entry-at m (s .log)) (last-term es))) e .1)
-
-    taken : After log
-    taken =
-        record {
-          valid = subst (λ y. Valid-log (a .γ) y (s .term)) (sym (whole some)) (valid-prefix m (a .ghost .leader-logs (s .term)));
-          holds = rw (whole some) (up-to-up-to m m leaders (omega arith));
-          append-keeps-agreement = λ n q. keeps n q (cases-lt n m);
-        }
-      where
-        keeps : (n : ℕ) → up-to n (s .log) ≡ up-to n leaders → (n < m) ⊎ (m ≤ n) → up-to n log ≡ up-to n leaders
-        keeps n q (inl low) = rw (whole some) (up-to-up-to n m leaders (omega arith))
-        keeps n q (inr high) =
-            let x = fit .last some in
-            let was-there = term-of-entry m (s .log) (last-term es) (x .0) (agree-entry m n (s .log) leaders high q ∙ x .1) (x .2) in
-            absurd (both-ways _ was-not-there was-there)
-
-    -- what the leader says is committed is so in the new log
-    told-committed : (d : ℕ) → 0 < d → d ≤ c → d ≤ last-index log → Committed-prefix k (a .γ) sent d (s .term) log
-    told-committed d pos low inside =
-        let p = letter .commit (omega arith) in
-        let top : last-index log ≤ m = rw (whole some) (last-up-to-below m leaders) in
-        let far = p .far in
-        record {
-          index = p .index;
-          in-term = p .in-term;
-          committed = p .committed;
-          far = omega arith;
-          low = p .low;
-          same = rw (whole some) (up-to-up-to d m leaders (omega arith))
-              ∙ agree-below d c leaders (a .γ .leader-log (p .in-term)) low (p .same);
-          inside = inside;
-        }
 
   -- acknowledgements: those that it gave, and the one that it gives now
   which : (t n : ℕ) → Acked (a .γ) more me t n → Acked (a .γ) sent me t n ⊎ ((t ≡ s .term) × (n ≤ m))
@@ -201,7 +80,7 @@ module _ {k me : ℕ} {was : Before} {s : State} {sent : List Sent} (a : Turn k 
         acks-new = λ t n z. elim (which t n z) [ inl old ↦ inl old | inr now ↦ inr (let p = now .0 in omega arith) ];
       }
 
-  module _ (l : List Entry) (after : After l) where
+  module _ (l : List Entry) (after : After (a .γ) (s .term) es (s .log) l) where
     -- what it acknowledged is in the log afterwards, now that this leader's election counts among those that inherited it
     keeps : (t n : ℕ) → Acked (a .γ) more me t n → ((x : ℕ) → t < x → x < suc (s .term) → Inherits (a .γ) n t x)
         → up-to n l ≡ up-to n (a .γ .leader-log t)
@@ -232,15 +111,7 @@ module _ {k me : ℕ} {was : Before} {s : State} {sent : List Sent} (a : Turn k 
         let far = entry-within (p .index) its (p .committed .entry) (p .committed .there) in
         let same = after .append-keeps-agreement d (p .same ∙ sym e) ∙ e in
         let low = p .far in
-        record {
-          index = p .index;
-          in-term = p .in-term;
-          committed = p .committed;
-          far = p .far;
-          low = p .low;
-          same = same;
-          inside = agrees-within (a .ghost) d (p .in-term) l (omega arith) same;
-        }
+        committed-alike p l (same ∙ sym (p .same)) (agrees-within (a .ghost) d (p .in-term) l (omega arith) same)
 
     -- the server afterwards, with commit index d
     mine : (d : ℕ) → (0 < d → Committed-prefix k (a .γ) sent d (s .term) l)
@@ -272,22 +143,28 @@ module _ {k me : ℕ} {was : Before} {s : State} {sent : List Sent} (a : Turn k 
   abbrev new-commit : ℕ
   new-commit = at-least (s .commit) (at-most c (last-index log))
 
+  takes-new : has-new s es ≡ true → After (a .γ) (s .term) es (s .log) log
+  takes-new e = taken (a .ghost) s (a .mine .log) es fit e log whole
+
   abbrev Commit-ok : ℕ → Type 0
   Commit-ok d = 0 < d → Committed-prefix k (a .γ) sent d (s .term) log
+
+  told : has-new s es ≡ true → (d : ℕ) → 0 < d → d ≤ c → d ≤ last-index log → Committed-prefix k (a .γ) sent d (s .term) log
+  told e = told-committed (a .ghost) s (a .mine .log) es fit e log whole letter
 
   commit-now : has-new s es ≡ true → 0 < new-commit → Committed-prefix k (a .γ) sent new-commit (s .term) log
   commit-now e =
       pick-by Commit-ok (ltb (s .commit) (at-most c (last-index log))) (at-most c (last-index log)) (s .commit)
       (λ _. pick-by Commit-ok (ltb c (last-index log)) c (last-index log)
-      (λ f p. told-committed e c p (omega arith) (grind (arith, tells)))
-      (λ f p. told-committed e (last-index log) p (grind (arith, tells)) (omega arith)))
-      (λ _ p. commit-stays log (taken e) (s .commit) (a .mine .commit p))
+      (λ f p. told e c p (omega arith) (grind (arith, tells)))
+      (λ f p. told e (last-index log) p (grind (arith, tells)) (omega arith)))
+      (λ _ p. commit-stays log (takes-new e) (s .commit) (a .mine .commit p))
 
   pub takes : Turn k me was (pick (has-new s es) (following h (with-log log new-commit s)) (following h s)) more
   takes =
       pick-by (λ x. Turn k me was x more) (has-new s es) (following h (with-log log new-commit s)) (following h s)
-      (λ e. acknowledges log (taken e) new-commit (commit-now e))
-      (λ e. acknowledges (s .log) (nothing-new e) (s .commit) (a .mine .commit))
+      (λ e. acknowledges log (takes-new e) new-commit (commit-now e))
+      (λ e. acknowledges (s .log) (nothing-new (a .ghost) s (a .mine .log) es fit e) (s .commit) (a .mine .commit))
 
 -- THE EVENT: refused if of an earlier term, or if the entry before is not there; else the server moves to that term, and takes it
 module _ {k me : ℕ} {was : Before} {s : State} {sent : List Sent} (a : Turn k me was s sent) (h t i u : ℕ) (es : List Entry) (c : ℕ)

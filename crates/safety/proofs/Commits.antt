@@ -11,22 +11,8 @@ use Rattle.std.proofs.shelf.Tests.{cases-lt}
 use Rattle.safety.proofs.Logs.{agree-below}
 use Rattle.safety.proofs.Ghost.{just, Election, Ghost, Committed-prefix}
 use Rattle.safety.proofs.Invariant.{Ghost-invariant}
+use Rattle.safety.proofs.Prefixes.{committed-by}
 use Rattle.safety.proofs.LeaderCompleteness.{committed-in-log}
-
--- what is committed by term t is so by any later one
-pub committed-later : {k : ℕ} {γ : Ghost} {sent : List Sent} {c t : ℕ} {l : List Entry} (u : ℕ) → t ≤ u
-    → Committed-prefix k γ sent c t l → Committed-prefix k γ sent c u l
-committed-later u h p =
-    let low = p .low in
-    record {
-      index = p .index;
-      in-term = p .in-term;
-      committed = p .committed;
-      far = p .far;
-      low = omega arith;
-      same = p .same;
-      inside = p .inside;
-    }
 
 module _ {k : ℕ} {γ : Ghost} {sent : List Sent} (g : Ghost-invariant k γ sent) where
   -- the leader of the term in which it was committed
@@ -39,17 +25,7 @@ module _ {k : ℕ} {γ : Ghost} {sent : List Sent} (g : Ghost-invariant k γ sen
       → (x : Committed-prefix k γ sent c t a) (y : Committed-prefix k γ sent d u b) → x .in-term ≤ y .in-term → up-to n a ≡ up-to n b
   in-order {c} {d} {t} {u} {a} {b} n lo hi x y le =
       let r = leader-of y in
-      let x′ : Committed-prefix k γ sent c (y .in-term) a =
-      record {
-        index = x .index;
-        in-term = x .in-term;
-        committed = x .committed;
-        far = x .far;
-        low = le;
-        same = x .same;
-        inside = x .inside;
-      } in
-      let both = committed-in-log g (r .0) (r .1) x′ in
+      let both = committed-in-log g (r .0) (r .1) (committed-by x (y .in-term) le) in
       let far = x .far in
       agree-below n c a (γ .leader-log (x .in-term)) lo (x .same)
       ∙ (sym (agree-below n (x .index) (γ .leader-log (y .in-term)) (γ .leader-log (x .in-term)) (omega arith) both)

@@ -66,6 +66,7 @@ module _ (l : Limits) {was : Before} {s : State} {sent : List Sent} (a : Turn (l
   abbrev Reaches : State → List Letter → Type 0
   Reaches s′ ls = Turn (l .servers) (l .me) was s′ (sent ++ from (l .me) ls)
 
+  -- a message, by its kind
   message-keeps : (h : ℕ) (m : Message) → Sent-to (l .me) sent h m → (h ≡ l .me → ⊥) → out-of-row l m ≡ 0
       → Reaches (heard l s h m) (back s h m)
   message-keeps h (ask-vote t i u) x other row = vote-request-keeps a h t i u other (a .letters _ x)
@@ -74,6 +75,7 @@ module _ (l : Limits) {was : Before} {s : State} {sent : List Sent} (a : Turn (l
       append-request-keeps a h t i u es c (a .letters _ x) (and-parts (in-a-row i es) _ (pick-zero _ row) .0)
   message-keeps h (appended t i ok) x other row = say-nothing (append-reply-keeps a h t i ok x)
 
+  -- the first step, by the kind of event
   first-keeps : (e : Event) → Accepted l sent e → Reaches (first-step l s e) (first-letters l s e)
   first-keeps timeout c =
       bool-by (λ b. Reaches (pick b (with-send true s) (wants l s))
@@ -97,6 +99,7 @@ module _ (l : Limits) {was : Before} {s : State} {sent : List Sent} (a : Turn (l
       let done = change-unseen sends (after-all l f) (finished-unseen (sent-now m) ∙ sent-unseen m) in
       rw from-append (rw append-assoc at done)
 
+  -- an event that is not turned away; a restart ends with its first step, and who doesn't lead answers a request with nothing
   stepped-keeps : (e : Event) → Accepted l sent e → Reaches (stepped l s e) (letters (doing l s e))
   unfolding letters
   stepped-keeps timeout c = rest-keeps (first-step l s timeout) (first-letters l s timeout) (first-keeps timeout c)
@@ -112,6 +115,7 @@ module _ (l : Limits) {was : Before} {s : State} {sent : List Sent} (a : Turn (l
   stepped-keeps restart c = first-keeps restart c
   stepped-keeps (garbled n) c = first-keeps (garbled n) c
 
+  -- any event
   pub event-keeps : (e : Event) → Was-sent (l .me) sent e
       → Turn (l .servers) (l .me) was (after l s e) (sent ++ from (l .me) (letters (answer l s e)))
   unfolding letters

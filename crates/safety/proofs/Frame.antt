@@ -47,6 +47,7 @@ module _ {i b : ℕ} {γ : Ghost} {sent : List Sent} {δ : Ghost} {more : List S
   acked-before ne a = record { upto = a .upto; far = a .far; ack = ack-before ne (a .ack) }
 
   module _ {k : ℕ} (letters : Letters-valid k γ sent) where
+    -- THE OTHER SERVERS: their votes, acknowledgements and logs are what they were; new elections and longer leaders' logs are not theirs
     pub others-stay : {v : ℕ} {s : View} → (v ≡ i → ⊥) → Server-invariant k γ sent v s → Server-invariant k δ more v s
     others-stay {v} {s} ne o =
         record {
@@ -109,6 +110,7 @@ module _ {i b : ℕ} {γ : Ghost} {sent : List Sent} {δ : Ghost} {more : List S
             let top : t ≤ b = limit t x (subst (λ y. γ .ballot y t ≡ just x) e c) in
             elim (step .acks-new u n here) [ inl o ↦ subst (λ y. Acked γ sent y u n) (sym e) o | inr z ↦ absurd (omega arith) ]
 
+    -- THE GHOST: what was valid in it is, and what is new is what the step owes
     pub ghost-stays : ((t : ℕ) (x : Ballot) → γ .ballot i t ≡ just x → t ≤ b) → Owed k i γ δ more
         → Ghost-invariant k γ sent → Ghost-invariant k δ more
     ghost-stays limit owed g =

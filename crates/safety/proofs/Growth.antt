@@ -10,8 +10,10 @@ use Rattle.servers.specs.World.{Sent}
 use Rattle.safety.proofs.Logs.{agree-entry, entry-within, prefix-within}
 use Rattle.safety.proofs.Quorums.{quorum-map}
 use Rattle.safety.proofs.Ghost.{Election, Ghost, Voted-for, Ack, replied, led, Acked, Committed, Committed-prefix, Inherits, Extends}
+use Rattle.safety.proofs.Prefixes.{committed-alike}
 use Rattle.safety.proofs.Invariant.{From-leader, Valid-log, Valid-election, Leader, Valid-append, Message-invariant}
 
+-- history has grown, or not
 pub extends-refl : (γ : Ghost) (sent : List Sent) → Extends γ sent γ sent
 extends-refl γ sent =
     record {
@@ -39,6 +41,7 @@ module _ {γ : Ghost} {sent : List Sent} {δ : Ghost} {more : List Sent} (grows 
       let far = entry-within n (γ .leader-log t) x q in
       agree-entry n n (δ .leader-log t) (γ .leader-log t) (omega arith) (grows .leader-logs t n far) ∙ q
 
+  -- a log that is a leader's up to an entry stays so, though that leader's log has got longer
   pub from-leader-stays : {l : List Entry} (n : ℕ) (e : Entry) → entry-at n l ≡ e ∷ [] → From-leader γ l n (e .term)
       → From-leader δ l n (e .term)
   from-leader-stays {l} n e p f =
@@ -55,6 +58,7 @@ module _ {γ : Ghost} {sent : List Sent} {δ : Ghost} {more : List Sent} (grows 
   valid-log-stays v =
       record { contiguous = v .contiguous; ascending = v .ascending; matching = λ n e p. from-leader-stays n e p (v .matching n e p) }
 
+  -- what was acknowledged stays acknowledged, and so what was committed stays committed
   pub ack-stays : {v t n : ℕ} → Ack γ sent v t n → Ack δ more v t n
   ack-stays (replied d x) = replied d (grows .letters _ x)
   ack-stays {v} {t} {n} (led r q e h) = let l = grows .longer t in led r (grows .elections t r q) e (omega arith)
@@ -85,6 +89,7 @@ module _ {γ : Ghost} {sent : List Sent} {δ : Ghost} {more : List Sent} (grows 
         inside = p .inside;
       }
 
+  -- votes and elections stay
   pub voted-stays : {t c v : ℕ} → Voted-for γ t c v → Voted-for δ t c v
   voted-stays {t} {c} {v} b = (b .0, grows .ballots v t (b .0) (b .1), b .2)
 
@@ -112,6 +117,7 @@ module _ {γ : Ghost} {sent : List Sent} {δ : Ghost} {more : List Sent} (grows 
   pub inherits-before : (n t u : ℕ) → n ≤ last-index (γ .leader-log t) → Inherits δ n t u → Inherits γ n t u
   inherits-before n t u far i r q = i r (grows .elections u r q) ∙ grows .leader-logs t n far
 
+  -- what a letter says stays true
   append-stays : {k h t j u : ℕ} {es : List Entry} {c : ℕ} → Valid-append k γ sent h t j u es c → Valid-append k δ more h t j u es c
   append-stays {k} {h} {t} {j} {u} {es} {c} a =
       record {
@@ -129,16 +135,7 @@ module _ {γ : Ghost} {sent : List Sent} {δ : Ghost} {more : List Sent} (grows 
       commit p =
           let l = grows .longer t in
           let inside = p .inside in
-          let n = prefix-stays p in
-          record {
-            index = n .index;
-            in-term = n .in-term;
-            committed = n .committed;
-            far = n .far;
-            low = n .low;
-            same = grows .leader-logs t c inside ∙ n .same;
-            inside = omega arith;
-          }
+          committed-alike (prefix-stays p) (δ .leader-log t) (grows .leader-logs t c inside) (omega arith)
 
   pub message-stays : (k h d : ℕ) (m : Message) → Message-invariant k γ sent h d m → Message-invariant k δ more h d m
   message-stays k h d (ask-vote t j u) o = (o .0, grows .ballots h t _ (o .1), o .2, o .3)

@@ -17,6 +17,7 @@ use Rattle.safety.proofs.Logs.{Contiguous, Ascending, entry-within}
 use Rattle.safety.proofs.Quorums.{Quorum}
 use Rattle.safety.proofs.Ghost.{nothing, just, Election, Ghost, Voted-for, Ack, replied, led, Acked, Committed-prefix, Inherits, Own-step}
 use Rattle.safety.proofs.Invariant.{Valid-log, From-leader, Valid-election, view, horizon, Server-invariant}
+use Rattle.safety.proofs.Prefixes.{committed-alike}
 use Rattle.safety.proofs.LogMatching.{agrees-within}
 use Rattle.safety.proofs.Growth.{from-leader-stays, ack-stays, prefix-stays, inherits-before}
 use Rattle.safety.proofs.Frame.{Owed, acked-within}
@@ -204,15 +205,7 @@ module _ {k me : ℕ} {was : Before} {s : State} {sent : List Sent} (a : Turn k 
       commit p =
           let inside = p .inside in
           let longer = c .own-longer in
-          record {
-            index = p .index;
-            in-term = p .in-term;
-            committed = p .committed;
-            far = p .far;
-            low = p .low;
-            same = c .own-stays (s .commit) inside ∙ p .same;
-            inside = omega arith;
-          }
+          committed-alike p l (c .own-stays (s .commit) inside) (omega arith)
 
   -- so the server leads, in any state that looks so
   pub leads : (s′ : State) → view s′ ≡ record {

@@ -10,6 +10,7 @@ pub mod Quorums
 pub mod Ghost
 pub mod Invariant
 -- what follows from the invariant in one world
+pub mod Prefixes
 pub mod LogMatching
 pub mod LeaderCompleteness
 pub mod Commits
@@ -24,6 +25,7 @@ pub mod VoteRequest
 pub mod LeaderLog
 pub mod VoteReply
 pub mod ClientRequest
+pub mod AppendedLog
 pub mod AppendRequest
 pub mod AppendReply
 pub mod Commit

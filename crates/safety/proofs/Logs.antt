@@ -10,7 +10,7 @@ use lib.Dec.{ltb, leb, eqb}
 use lib.ListN.{length}
 use Rattle.servers.specs.Store.{pick}
 use Rattle.servers.specs.Server.{Entry, last-index, last-term, up-to, entry-at, above, term-is, in-a-row}
-use Rattle.std.proofs.shelf.Tests.{and-parts, false≢true}
+use Rattle.std.proofs.shelf.Tests.{and-parts, false≢true, cases-lt}
 use Rattle.std.proofs.shelf.Ways.{tells}
 use Rattle.safety.proofs.Tests.{bool-by}
 
@@ -134,6 +134,21 @@ last-of-up-to n (e ∷ es) r h =
     let k = contiguous-last es (r .1) in
     let ih = last-of-up-to n es (r .1) in
     grind (arith, tells)
+
+-- a part from the beginning is no longer than the whole, and is the whole up to its own end
+pub last-up-to-within : (n : ℕ) (l : List Entry) → Contiguous l → last-index (up-to n l) ≤ last-index l
+last-up-to-within n l r =
+    elim (cases-lt (last-index l) n) [
+      | inl p ↦ rw (up-to-all n l (omega arith)) (omega arith)
+      | inr p ↦ (let e = last-of-up-to n l r p in omega arith)
+    ]
+
+pub up-to-its-end : (n : ℕ) (l : List Entry) → Contiguous l → up-to (last-index (up-to n l)) l ≡ up-to n l
+up-to-its-end n l r = go (cases-lt (last-index l) n)
+  where
+    go : (last-index l < n) ⊎ (n ≤ last-index l) → up-to (last-index (up-to n l)) l ≡ up-to n l
+    go (inl p) = rw (up-to-all n l (omega arith)) (up-to-all (last-index l) l (omega arith))
+    go (inr p) = ap (λ y. up-to y l) (last-of-up-to n l r p)
 
 pub entry-exists : (n : ℕ) (l : List Entry) → Contiguous l → 1 ≤ n → n ≤ last-index l → (x : Entry) × (entry-at n l ≡ x ∷ [])
 unfolding entry-at

@@ -19,7 +19,8 @@ use Rattle.safety.proofs.Ghost.{just, Election, Ghost, Committed-prefix}
 use Rattle.safety.proofs.Invariant.{Valid-log}
 use Rattle.safety.proofs.LogMatching.{logs-match, start-in-log, agrees-within}
 use Rattle.safety.proofs.LeaderCompleteness.{leader-complete, committed-in-log}
-use Rattle.safety.proofs.Commits.{committed-later, commits-agree}
+use Rattle.safety.proofs.Prefixes.{committed-later}
+use Rattle.safety.proofs.Commits.{commits-agree}
 use Rattle.safety.proofs.Growth.{valid-log-stays, prefix-stays}
 use Rattle.safety.proofs.Induction.{earlier-world}
 use Rattle.safety.proofs.Monotone.{rises-since}
@@ -52,6 +53,7 @@ module _ {g : Group} {γ : Ghost} {sent : List Sent} {m : List Happening} (x : H
         let l = x .inv .servers i .leader two in
         ap (up-to n) (sym (l .all)) ∙ start-in-log (x .inv .ghost .elections (it .term) won (l .elected)) n h
 
+-- an entry of which the term was compared is there, and has that term
 has-entry : (n : ℕ) (l : List Entry) (t : ℕ) → has-term (entry-at n l) t ≡ true → (x : Entry) × (entry-at n l ≡ x ∷ []) × (x .term ≡ t)
 unfolding has-term
 has-entry n l t h = go (entry-at-most-one n l)
@@ -62,6 +64,7 @@ has-entry n l t h = go (entry-at-most-one n l)
 
 -- ANY TWO MOMENTS
 
+-- both were elected in the one election of their term
 pub election-safety : Election-safety
 unfolding Election-safety
 election-safety can f g w right group lived fine m n um un i j p q e =
@@ -73,6 +76,7 @@ election-safety can f g w right group lived fine m n um un i j p q e =
     let same : won x i p ≡ won y j q = cc in
     sym (itself-then x i p) ∙ (ap (λ (z : Election). z .leader) same ∙ itself-then y j q)
 
+-- both logs are, up to that entry, the log of the leader of its term
 pub log-matching : Log-matching
 unfolding Log-matching
 log-matching can f g w right group lived fine m n um un i j k t p q =
@@ -81,6 +85,7 @@ log-matching can f g w right group lived fine m n um un i j k t p q =
     let y = has-entry k (at-moment g n j .log) t q in
     logs-match (valid-then (hist .moments m um) i) (valid-then (hist .moments n un) j) k (x .0) (y .0) (x .1) (y .1) (x .2 ∙ sym (y .2))
 
+-- both are committed in the world's ghost, and there commits agree
 pub state-machine-safety : State-machine-safety
 unfolding State-machine-safety
 state-machine-safety can f g w right group lived fine m n um un i j zero p q =
@@ -94,6 +99,7 @@ state-machine-safety can f g w right group lived fine m n um un i j (suc k) p q 
     let y = committed-then (hist .moments n un) j (omega arith) in
     commits-agree (hist .inv .ghost) (suc k) p q x y
 
+-- by leader completeness the log that it was elected with has it, and its own log began with that one whenever it led
 pub later-leader-completeness : Later-leader-completeness
 unfolding Later-leader-completeness
 later-leader-completeness can f g w right group lived fine m n um un i j zero p two later =
@@ -133,6 +139,7 @@ in-order P h can f g w right group lived fine m n un um =
 abbrev Complete : (ℕ → State) → (ℕ → State) → Type 0
 Complete a b = (i j n : ℕ) → n ≤ a j .commit → b i .kind ≡ 2 → a j .term ≤ b i .term → up-to n (b i .log) ≡ up-to n (a j .log)
 
+-- what was committed in its term or before is in the leader's log of its term, and that is the log that it has
 complete-since : Since Complete
 complete-since can f g w right group lived fine m um i j zero p two le =
     let hist = history can f g right group lived fine in
@@ -157,6 +164,7 @@ abbrev Appends : (ℕ → State) → (ℕ → State) → Type 0
 Appends a b =
     (i : ℕ) → a i .kind ≡ 2 → b i .kind ≡ 2 → a i .term ≡ b i .term → up-to (last-index (a i .log)) (b i .log) ≡ a i .log
 
+-- its log was, and is, the leader's log of its term, which only gets longer
 appends-since : Since Appends
 appends-since can f g w right group lived fine m um i p q e =
     let hist = history can f g right group lived fine in
@@ -177,6 +185,7 @@ abbrev Stays : (ℕ → State) → (ℕ → State) → Type 0
 Stays a b =
     (i : ℕ) → (a i .term ≤ b i .term) × (a i .commit ≤ b i .commit) × (up-to (a i .commit) (b i .log) ≡ up-to (a i .commit) (a i .log))
 
+-- the commit index has not fallen, and what is committed at two moments agrees
 stays-since : Since Stays
 unfolding State-machine-safety
 stays-since can f g w right group lived fine m um i =

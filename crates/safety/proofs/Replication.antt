@@ -1,6 +1,6 @@
--- THE LEADER SENDS entries to the others. Any entries that stand in its log after an index make a valid letter (`append-valid`); that they
--- reach to its end is nowhere used.
-use mathlib.Core.Path.{_≡_, sym, _∙_}
+-- THE LEADER SENDS entries to the others. Its entries after any index, up to any other, make a valid letter (`part-valid`); that a letter
+-- reaches to the end of its log is nowhere used.
+use mathlib.Core.Path.{_≡_, sym, ap, subst, _∙_}
 use mathlib.Core.Bool.{_&&_}
 use mathlib.Core.List.{List, [], _++_}
 use Prim.Native.Nat.{ℕ, _+_, _-_, _≤_, _<_}
@@ -15,7 +15,8 @@ use Rattle.std.proofs.shelf.Tests.{and-parts}
 use Rattle.std.proofs.shelf.Ways.{tells}
 use Rattle.safety.proofs.Tests.{bool-by}
 use Rattle.safety.proofs.Letters.{all-none, all-others}
-use Rattle.safety.proofs.Logs.{up-to-all, entry-exists, above-up-to, above-length, above-some}
+use Rattle.safety.proofs.Logs.{Contiguous, up-to-all, up-to-up-to, up-to-its-end, contiguous-up-to, last-up-to-below, last-up-to-within}
+use Rattle.safety.proofs.Logs.{entry-exists, above-up-to, above-length, above-some}
 use Rattle.safety.proofs.Invariant.{Valid-append, Message-invariant, Letter-invariant}
 use Rattle.safety.proofs.Turn.{Before, Turn, say, Silent}
 
@@ -37,17 +38,33 @@ module _ {k me : ℕ} {was : Before} {s : State} {sent : List Sent} (a : Turn k 
         commit = λ p. rw (w .all) (a .mine .commit p);
       }
 
-  -- all that it has from the next index on
+  -- its entries after index i, up to any index n
+  pub part-valid : (i n : ℕ)
+      → Valid-append k (a .γ) sent me (s .term) i (term-of (entry-at i (s .log))) (above i (up-to n (s .log))) (s .commit)
+  part-valid i n =
+      append-valid i (above i part)
+      (λ p. let size = part-size p in let low = last-up-to-within n (s .log) row in omega arith)
+      (λ p. let some = above-some i part p in let low = last-up-to-below n (s .log) in
+      ap (λ y. above i part ++ y) (sym (up-to-up-to i n (s .log) (omega arith)))
+      ∙ (above-up-to i part (contiguous-up-to n (s .log) row)
+      ∙ (sym (up-to-its-end n (s .log) row) ∙ ap (λ y. up-to y (s .log)) (sym (part-size p)))))
+    where
+      row : Contiguous (s .log)
+      row = a .mine .log .contiguous
+
+      part : List Entry
+      part = up-to n (s .log)
+
+      part-size : 0 < length (above i part) → i + length (above i part) ≡ last-index part
+      part-size p = let some = above-some i part p in above-length i part (contiguous-up-to n (s .log) row) (omega arith)
+
+  -- it sends all that it has from the next index on
   sends-valid : (h : ℕ) → Message-invariant k (a .γ) sent me h (to-server s h)
   sends-valid h =
       let i : ℕ = next-for s h - 1 in
-      append-valid i (above i (s .log))
-      (λ p. let n = size i p in omega arith)
-      (λ p. let n = size i p in
-      above-up-to i (s .log) (a .mine .log .contiguous) ∙ sym (up-to-all (i + length (above i (s .log))) (s .log) (omega arith)))
-    where
-      size : (i : ℕ) → 0 < length (above i (s .log)) → i + length (above i (s .log)) ≡ last-index (s .log)
-      size i p = let z = above-some i (s .log) p in above-length i (s .log) (a .mine .log .contiguous) (omega arith)
+      let n : ℕ = last-index (s .log) in
+      subst (λ y. Valid-append k (a .γ) sent me (s .term) i (term-of (entry-at i (s .log))) (above i y) (s .commit))
+      (up-to-all n (s .log) (omega arith)) (part-valid i n)
 
 pub replication-keeps : (l : Limits) {was : Before} {s : State} {sent : List Sent} → Turn (l .servers) (l .me) was s sent
     → Turn (l .servers) (l .me) was s (sent ++ from (l .me) (sends-now l s))

@@ -16,7 +16,7 @@ use Rattle.safety.proofs.Logs.{ascending-last}
 use Rattle.safety.proofs.Ghost.{nothing, just, is-nothing, Ballot, Ghost, Voted-for, led}
 use Rattle.safety.proofs.Invariant.{Valid-log, Valid-ballot, Candidate, Server-invariant, Letter-invariant, view, horizon}
 use Rattle.safety.proofs.LogMatching.{valid-later}
-use Rattle.safety.proofs.Commits.{committed-later}
+use Rattle.safety.proofs.Prefixes.{committed-later}
 use Rattle.safety.proofs.Growth.{valid-log-stays, prefix-stays}
 use Rattle.safety.proofs.Turn.{Before, Turn, with-ballots, Silent, All-silent, ack-silent, acked-silent}
 use Rattle.safety.proofs.Voting.{one-more, cast-here, cast-either, cast-step, cast}

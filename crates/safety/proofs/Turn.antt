@@ -16,7 +16,7 @@ use Rattle.safety.proofs.Letters.{in-left, in-either, from-by, old-or-new}
 use Rattle.safety.proofs.Ghost.{Maybe, just, Ballot, Ghost, Ack, replied, led, Acked, Extends, Own-step}
 use Rattle.safety.proofs.Invariant.{Ghost-invariant, Server-invariant, Letter-invariant, view, horizon}
 use Rattle.safety.proofs.LogMatching.{valid-later}
-use Rattle.safety.proofs.Commits.{committed-later}
+use Rattle.safety.proofs.Prefixes.{committed-later}
 use Rattle.safety.proofs.Growth.{extends-trans, leader-stays, prefix-stays, message-stays}
 use Rattle.safety.proofs.Frame.{Owed, Letters-valid, others-stay, ghost-stays}
 

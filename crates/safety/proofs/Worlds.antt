@@ -1,5 +1,5 @@
 -- WHATEVER HAPPENED, THE INVARIANT HOLDS, and what happens after only adds to the history that it speaks of: `history`, by induction on
--- how the world came to be (Induction).
+-- how the world came to be (Induction). One event is Event's; here it becomes one happening, and then all that happened.
 use mathlib.Core.Path.{_≡_, refl, subst}
 use mathlib.Core.Bool.{Bool, false}
 use mathlib.Core.List.{List, [], _∷_}

@@ -3,3 +3,5 @@ pub mod VoteBits
 pub mod HeadWords
 pub mod PeerWords
 pub mod PutBack
+pub mod Sessions
+pub mod Holding

@@ -35,10 +35,10 @@ use Rattle.state.specs.Held.{limits-of, state-of, Held, Turns, Becomes}
 use Rattle.state.proofs.Laws.{turns, becomes}
 
 -- the words before the sessions
-abbrev peers : Limits → State → List ℕ
+abbrev pub peers : Limits → State → List ℕ
 peers l s = map option-word (s .nexts) ++ s .matches
 
-length-peers : (l : Limits) (n : ℕ) (s : State) (r : List ℕ) → Mid l n s r → length (peers l s) ≡ 2 * l .servers
+pub length-peers : (l : Limits) (n : ℕ) (s : State) (r : List ℕ) → Mid l n s r → length (peers l s) ≡ 2 * l .servers
 length-peers l n s r f =
     let a = length-append (map option-word (s .nexts)) (s .matches) in
     let b = length-map (s .nexts) option-word in

@@ -1,9 +1,9 @@
 use native.Mathlib.Omega.{arith}
-use mathlib.Core.Path.{_≡_, refl, sym, _∙_}
+use mathlib.Core.Path.{refl, sym, _∙_}
 use mathlib.Core.Bool.{_&&_}
 use Rattle.servers.specs.Opened.{limits-of}
 use Rattle.servers.specs.Server.{in-a-row}
-use Rattle.wire.specs.Means.{entries-of}
+use Rattle.wire_read.specs.Means.{entries-of}
 use Rattle.checks.specs.Refusals.{can-do}
 use Rattle.checks.proofs.Entries.{turn-passed, turn-refused, pass-none, entries-none}
 use Rattle.checks.proofs.append.pass.Needs as need

@@ -1,6 +1,6 @@
 use mathlib.Core.Path.{_≡_}
 use mathlib.Core.Bool.{_&&_}
-use Rattle.wire.specs.Means.{Entries-in}
+use Rattle.wire_read.specs.Means.{Entries-in}
 use Rattle.checks.specs.Fields.{if-good}
 use Rattle.checks.specs.Steps.{good-there, passes, row-there}
 use Rattle.checks.proofs.append.pass.Given as given

@@ -1,8 +1,8 @@
-use mathlib.Core.Path.{_≡_, refl, sym, _∙_, ap}
-use mathlib.Core.Bool.{Bool, true, _&&_}
+use mathlib.Core.Path.{sym, _∙_, ap}
+use mathlib.Core.Bool.{true, _&&_}
 use lib.Dec.{ltb}
 use Rattle.servers.specs.Opened.{limits-of}
-use Rattle.wire.specs.declared.parts.Event.the-variants.{Request, Comes}
+use Rattle.wire_read.specs.declared.parts.Event.the-variants.{Request, Comes}
 use Rattle.checks.specs.Outcome.{ordered}
 use Rattle.checks.specs.Refusals.{can-do}
 use Rattle.checks.proofs.Entries.{brief-means}

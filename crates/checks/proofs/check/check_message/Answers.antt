@@ -1,4 +1,3 @@
-use mathlib.Core.Path.{_≡_, _∙_}
 use Rattle.checks.proofs.Outcomes.{append-means}
 use Rattle.checks.proofs.check.check_message.Needs as need
 

@@ -12,4 +12,5 @@ pub returns : need.returns
 returns c =
     let t = take (c .args .len) (unpacked (c .args .words .now)) in
     let u = length-unpack (c .args .len) (c .args .words .now) (c .pre .there) in
-    writes-as (ap (λ (k : ℕ). write-number k ++ t) (sym u)) (writes-then (c .write-number-next .ensures .bytes) (c .write-unpacked .ensures))
+    writes-as (ap (λ (k : ℕ). write-number k ++ t) (sym u))
+    (writes-then (c .write-number-next .ensures .bytes) (c .write-unpacked .ensures))
