@@ -11,13 +11,10 @@ ghost use Rattle.store.specs.Calls.{Held, Of-text, Spot-of};
 use crate::find::Spot;
 use crate::index::close_place;
 use crate::index::open_place;
+use crate::row::INDEX;
+use crate::row::NAME;
+use crate::row::ROW;
 use crate::row::row_at;
-
-const INDEX: usize = 2;
-
-const NAME: usize = 9;
-
-const ROW: usize = 42;
 
 // Another text for the p-th item: its row alone changes.
 pub fn replace(region: &mut [u64], p: usize, text: &[u64])
