@@ -5,7 +5,9 @@ use Prim.Native.Nat.{ℕ, _+_}
 use lib.ListN.{length, take, drop}
 use Rattle.std.proofs.shelf.Lists.{length-replicate}
 use Rattle.servers.specs.Store.{put}
-use Rattle.texts.specs.Words.{Text}
+use Rattle.servers.specs.Server.{Entry}
+use Rattle.texts.specs.Words.{Text, word}
+use Rattle.log.specs.Rows.{Good-entry}
 use Rattle.log.specs.Numbers.{entry-by}
 use Rattle.log_tests.proofs.tests.pushed.Needs as need
 use Rattle.log_tests.proofs.Held.{held-long, part-text}
@@ -24,13 +26,18 @@ returns c =
     let bs : List ℕ = c .args .b .now in
     let term = c .fits .term in
     let name : Text 64 (take 16 (drop 0 bs)) =
-    subst (λ (x : List ℕ). Text 64 (take 16 (drop 0 x))) (sym (c .pre .bytes)) (part-text 64 0 16 80 97 (omega arith) (omega arith) (omega arith)) in
+    subst (λ (x : List ℕ). Text 64 (take 16 (drop 0 x))) (sym (c .pre .bytes))
+    (part-text 64 0 16 80 97 (omega arith) (omega arith) (omega arith)) in
     let text : Text 256 (take 64 (drop 16 bs)) =
-    subst (λ (x : List ℕ). Text 256 (take 64 (drop 16 x))) (sym (c .pre .bytes)) (part-text 256 16 64 80 97 (omega arith) (omega arith) (omega arith)) in
+    subst (λ (x : List ℕ). Text 256 (take 64 (drop 16 x))) (sym (c .pre .bytes))
+    (part-text 256 16 64 80 97 (omega arith) (omega arith) (omega arith)) in
+    let new : Entry = entry-by (record { term = c .args .term; server = 2; client = 1; number = 6 }) (c .args .len + 1)
+    (put (take 16 (drop 0 bs)) (take 64 (drop 16 bs))) in
+    let entry : Good-entry 256 word word new =
+    record { at = omega arith; client = omega arith; id = omega arith; term = omega arith; command = (name, tt, text) } in
     record {
-      log = entry-by (record { term = c .args .term; server = 2; client = 1; number = 6 }) (c .args .len + 1)
-          (put (take 16 (drop 0 bs)) (take 64 (drop 16 bs))) ∷ held .log;
+      log = new ∷ held .log;
       long = omega arith;
-      good = (record { at = omega arith; client = omega arith; id = omega arith; term = omega arith; command = (name, tt, text) }, held .good);
+      good = (entry, held .good);
       is = c .push .ensures 4 (c .args .len + 1) (held .log) (held .long) (held .is);
     }
