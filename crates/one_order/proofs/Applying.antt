@@ -15,7 +15,7 @@ use Rattle.servers.specs.Server.{do-one, do-all, tell-one, tell-all}
 use Rattle.servers.specs.World.{Asked, store-after, reply-in, Said-in}
 use Rattle.std.proofs.shelf.Tests.{and-parts, cases-eq, eq-eqb, ne-eqb, eqb-true}
 use Rattle.std.proofs.shelf.Ways.{tells}
-use Rattle.safety.proofs.Tests.{bool-by}
+use Rattle.servers.proofs.Tests.{bool-by}
 use Rattle.safety.proofs.Tables.{length-many, length-set-at, nth-many}
 use Rattle.one_order.specs.Order.{remembered, session, new-to, asked-of, order}
 use Rattle.one_order.proofs.Lists.{All, nth-set-same, nth-set-other}

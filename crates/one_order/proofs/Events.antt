@@ -13,7 +13,7 @@ use Rattle.servers.specs.Server.{dues, tell-all, first-step, first-letters, set
 use Rattle.servers.specs.Server.{ends-there, is-request, stepped, doing, turned, place, after, answer}
 use Rattle.servers.specs.World.{Told-by, Said-in, reply-in}
 use Rattle.std.proofs.shelf.Ways.{tells}
-use Rattle.safety.proofs.Tests.{bool-by, pick-by}
+use Rattle.servers.proofs.Tests.{bool-by, pick-by}
 use Rattle.safety.proofs.Logs.{Contiguous}
 use Rattle.safety.proofs.Invariant.{View}
 use Rattle.safety.proofs.Unseen.{all-unseen}

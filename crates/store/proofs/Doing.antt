@@ -12,7 +12,7 @@ use Rattle.texts.proofs.Order.{perhaps-same}
 use Rattle.store.specs.Region.{blank, count, capacity, items-of, place, found, replaced-at, inserted-at, removed-at, region-put}
 use Rattle.store.specs.Region.{region-remove, region-do, Region-ok}
 use Rattle.store.specs.Calls.{Held, Of-text, Of-perhaps, Spot-of, Does, text-there}
-use Rattle.store.proofs.Order.{bool-by, pick-by, pick-true, pick-false}
+use Rattle.servers.proofs.Tests.{bool-by, pick-by, pick-true, pick-false}
 use Rattle.store.proofs.Stores.{look-place, place-within, found-within}
 use Rattle.store.proofs.Regions.{items-count, holds-put, holds-remove}
 use Rattle.store.proofs.Reading.{Nth, nth-good}

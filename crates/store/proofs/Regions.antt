@@ -16,7 +16,8 @@ use Rattle.store.specs.Region.{blank, item, rows-words, rows-in, region-of, co
 use Rattle.store.specs.Region.{region-size, numbers, empty-region, place, found, opened, closed, replaced-at, inserted-at, removed-at}
 use Rattle.store.specs.Region.{region-put, region-remove, region-do, Good-item, Apart, Sorted, Parts-ok, Region-ok}
 use Rattle.store.specs.Laws.{Region-laws}
-use Rattle.store.proofs.Order.{bool-by, pick-by, pick-true, pick-false, at-pick}
+use Rattle.servers.proofs.Tests.{bool-by, pick-by, pick-true, pick-false}
+use Rattle.store.proofs.Order.{at-pick}
 use Rattle.store.proofs.Stores.{with-place, without-place, place-within, found-within, sorted-with, sorted-without}
 use Rattle.store.proofs.Rows.{all-append, length-rows-words, rows-back, rows-fit, good-blanks, good-set}
 use Rattle.store.proofs.RowNumbers.{all-left, all-at, split-used, take-used, take-split, take-opened, take-closed, length-opened}

@@ -13,7 +13,8 @@ use Rattle.servers.specs.Store.{pick, same-text, less-text, Perhaps, Item, Stor
 use Rattle.texts.specs.Words.{All}
 use Rattle.texts.proofs.Order.{same-self, same-tells}
 use Rattle.store.specs.Region.{blank, item, place, found, Sorted}
-use Rattle.store.proofs.Order.{bool-by, pick-by, pick-true, pick-false, at-pick, less-trans, less-self, less-one-way, less-neither}
+use Rattle.servers.proofs.Tests.{bool-by, pick-by, pick-true, pick-false}
+use Rattle.store.proofs.Order.{at-pick, less-trans, less-self, less-one-way, less-neither}
 use Rattle.store.proofs.Order.{less-other, same-turned}
 
 -- with-item puts the item at the name's place
