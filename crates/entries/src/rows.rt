@@ -1,0 +1,58 @@
+// The log in a server's memory: its rows are changed where they stand, and its length with them.
+ghost use mathlib.Core.Path.{_≡_};
+ghost use mathlib.Core.Bool.{true};
+ghost use mathlib.Core.List.{List, _++_};
+ghost use Prim.Native.Nat.{ℕ, _+_, _-_, _*_, _<_, _≤_};
+ghost use lib.ListN.{length, getD, set, take, drop};
+ghost use Rattle.servers.specs.Server.{State, last-index, in-a-row};
+ghost use Rattle.texts.specs.Words.{All};
+ghost use Rattle.wire_read.specs.Means.{command-of, entries-of, Command-in, Entries-in};
+ghost use Rattle.memory.specs.Layout.{room-in};
+ghost use Rattle.memory.specs.Fits.{Entry-fits};
+ghost use Rattle.state.specs.Held.{Held, Becomes, limits-of, state-of};
+ghost use Rattle.entries.specs.Steps.{next-entry, pushed, replaced};
+use log::append::push;
+use log::replace::replace;
+use log::row::Numbers;
+use log::row::ROW;
+use state::head;
+use state::limits::limits;
+use state::limits::log_at;
+use wire_read::parts::Command;
+use wire_read::parts::Entries;
+
+const LENGTH: usize = 10;
+
+// One entry more at the log's end.
+pub fn push_entry(mem: &mut [u64], numbers: Numbers, b: &[u8], command: Command)
+    requires held { ⌜ Held (now mem) ⌝ }
+    requires within { ⌜ Command-in (now b) command ⌝ }
+    requires room { ⌜ last-index (state-of (now mem) .log) < room-in (now mem) ⌝ }
+    requires good { ⌜ Entry-fits (limits-of (now mem)) (next-entry (state-of (now mem)) numbers (command-of (now b) command)) ⌝ }
+    ensures { λ _. ⌜ Becomes (now (mem .entry)) (now (mem .exit))
+        (pushed (state-of (now (mem .entry))) numbers (command-of (now (b .entry)) command)) ⌝ }
+{
+    let at = log_at(mem);
+    let end = at + ROW * limits(mem).room as usize;
+    let len = head::last_index(mem);
+    push(&mut mem[at..end], len as usize, numbers, b, command);
+    mem[LENGTH] = len + 1;
+}
+
+// All after an index that the log has, or after 0, is replaced by the entries of a message.
+pub fn replace_entries(mem: &mut [u64], before: u64, b: &[u8], entries: Entries)
+    requires held { ⌜ Held (now mem) ⌝ }
+    requires there { ⌜ Entries-in (now b) entries ⌝ }
+    requires within { ⌜ before ≤ last-index (state-of (now mem) .log) ⌝ }
+    requires room { ⌜ before + entries .count ≤ room-in (now mem) ⌝ }
+    requires row { ⌜ in-a-row before (entries-of (now b) entries) ≡ true ⌝ }
+    requires good { ⌜ All (Entry-fits (limits-of (now mem))) (entries-of (now b) entries) ⌝ }
+    ensures { λ _. ⌜ Becomes (now (mem .entry)) (now (mem .exit))
+        (replaced (state-of (now (mem .entry))) before (entries-of (now (b .entry)) entries)) ⌝ }
+{
+    let at = log_at(mem);
+    let end = at + ROW * limits(mem).room as usize;
+    let len = head::last_index(mem);
+    replace(&mut mem[at..end], len as usize, before as usize, b, entries);
+    mem[LENGTH] = before + entries.count;
+}
