@@ -1,7 +1,9 @@
--- Steps of the two events that write the log, which the definitions take at once. Assumes nothing: these are definitions.
+-- Steps of the two events that write the log, which the definitions take at once, and what entries have that a log can take.
+-- Assumes nothing: these are definitions.
+use mathlib.Core.Path.{_≡_}
 use mathlib.Core.Bool.{Bool, true, false, not, _&&_, _||_}
 use mathlib.Core.List.{List, [], _∷_, _++_}
-use Prim.Native.Nat.{ℕ, suc}
+use Prim.Native.Nat.{ℕ, suc, _+_, _≤_}
 use lib.Dec.{ltb, eqb}
 use Rattle.servers.specs.Store.{pick, Command}
 use Rattle.servers.specs.Server.{
@@ -12,6 +14,8 @@ use Rattle.servers.specs.Server.{
   Limits,
   State,
   last-index,
+  last-term,
+  in-a-row,
   entry-at,
   up-to,
   term-is,
@@ -22,6 +26,13 @@ use Rattle.servers.specs.Server.{
 }
 use Rattle.log.specs.Numbers.{entry-by}
 use Rattle.log.specs.declared.row.Numbers.{Numbers}
+use Rattle.wire_read.specs.Means.{entries-of, Entries-in}
+use Rattle.wire_read.specs.declared.parts.Entries.{Entries}
+use Rattle.texts.specs.Words.{All}
+use Rattle.memory.specs.Layout.{room-in}
+use Rattle.memory.specs.Fits.{Entry-fits}
+use Rattle.state.specs.Held.{limits-of}
+use Rattle.entries.specs.declared.append.Last.{Last}
 use Rattle.entries.specs.declared.append.Reply.{Reply}
 
 -- one entry more, by its numbers and its command
@@ -30,6 +41,17 @@ next-entry s n x = entry-by n (suc (last-index (s .log))) x
 
 abbrev pub pushed : State → Numbers → Command → State
 pushed s n x = with-log (next-entry s n x ∷ s .log) (s .commit) s
+
+-- entries in bytes that the log of a memory can take after an index: in a row, within the room, each of them good
+pub record Can-take (m bs : List ℕ) (i : ℕ) (es : Entries) : Type 0 where
+  pub there : Entries-in bs es
+  pub room : i + es .count ≤ room-in m
+  pub row : in-a-row i (entries-of bs es) ≡ true
+  pub good : All (Entry-fits (limits-of m)) (entries-of bs es)
+
+-- the last of them, as the code holds it
+abbrev pub last-in : List Entry → Last
+last-in es = record { index = last-index es; term = last-term es }
 
 -- other entries after an index
 abbrev pub joined : State → ℕ → List Entry → List Entry

@@ -1,31 +1,13 @@
 // AppendEntries comes: the entries of a leader, after one that the log has.
 ghost use mathlib.Core.Path.{_≡_};
-ghost use mathlib.Core.Bool.{Bool, true, false};
-ghost use mathlib.Core.List.{List, [], _∷_};
-ghost use Prim.Native.Nat.{ℕ, _+_, _<_, _≤_};
-ghost use lib.Dec.{ltb, eqb};
-ghost use lib.ListN.{length};
-ghost use Rattle.servers.specs.Server.{
-  State,
-  Letter,
-  Message,
-  append,
-  last-index,
-  last-term,
-  last-of-all,
-  in-a-row,
-  has-new,
-  advanced,
-  following,
-  appends,
-  back,
-};
-ghost use Rattle.texts.specs.Words.{All};
+ghost use mathlib.Core.List.{[], _∷_};
+ghost use Prim.Native.Nat.{_<_, _≤_};
+ghost use lib.Dec.{ltb};
+ghost use Rattle.servers.specs.Server.{append, last-index, last-of-all, has-new, advanced, following, appends, back};
 ghost use Rattle.wire_read.specs.Means.{entries-of, Entries-in};
 ghost use Rattle.memory.specs.Layout.{servers-in, room-in};
-ghost use Rattle.memory.specs.Fits.{Entry-fits};
-ghost use Rattle.state.specs.Held.{Held, Becomes, limits-of, state-of};
-ghost use Rattle.entries.specs.Steps.{commits-to, extended, extended-if, has-before, accepts, accepted, carried};
+ghost use Rattle.state.specs.Held.{Held, Becomes, state-of};
+ghost use Rattle.entries.specs.Steps.{Can-take, last-in, commits-to, extended, extended-if, has-before, accepts, carried};
 use crate::rows::replace_entries;
 use log::find;
 use state::head;
@@ -51,8 +33,7 @@ pub struct Last {
 // The last entry comes first.
 fn last_of(b: &[u8], entries: Entries) -> Last
     requires { ⌜ Entries-in (now b) entries ⌝ }
-    ensures index { λ r. ⌜ r .index ≡ last-index (entries-of (now (b .entry)) entries) ⌝ }
-    ensures term { λ r. ⌜ r .term ≡ last-term (entries-of (now (b .entry)) entries) ⌝ }
+    ensures { λ r. ⌜ r ≡ last-in (entries-of (now (b .entry)) entries) ⌝ }
 {
     if entries.count == 0 {
         return Last { index: 0, term: 0 };
@@ -100,8 +81,7 @@ fn accepts(mem: &[u64], term: u64, before: u64, before_term: u64) -> bool
 fn has_new(mem: &[u64], b: &[u8], entries: Entries, last: Last) -> bool
     requires held { ⌜ Held (now mem) ⌝ }
     requires there { ⌜ Entries-in (now b) entries ⌝ }
-    requires index { ⌜ last .index ≡ last-index (entries-of (now b) entries) ⌝ }
-    requires term { ⌜ last .term ≡ last-term (entries-of (now b) entries) ⌝ }
+    requires last { ⌜ last ≡ last-in (entries-of (now b) entries) ⌝ }
     ensures { λ r. ⌜ r ≡ has-new (state-of (now (mem .entry))) (entries-of (now (b .entry)) entries) ⌝ }
 {
     let len = head::last_index(mem);
@@ -118,11 +98,8 @@ fn has_new(mem: &[u64], b: &[u8], entries: Entries, last: Last) -> bool
 fn extend(mem: &mut [u64], before: u64, commit: u64, b: &[u8], entries: Entries)
     requires held { ⌜ Held (now mem) ⌝ }
     requires low { ⌜ commit ≤ room-in (now mem) ⌝ }
-    requires there { ⌜ Entries-in (now b) entries ⌝ }
     requires within { ⌜ before ≤ last-index (state-of (now mem) .log) ⌝ }
-    requires room { ⌜ before + entries .count ≤ room-in (now mem) ⌝ }
-    requires row { ⌜ in-a-row before (entries-of (now b) entries) ≡ true ⌝ }
-    requires good { ⌜ All (Entry-fits (limits-of (now mem))) (entries-of (now b) entries) ⌝ }
+    requires can { ⌜ Can-take (now mem) (now b) before entries ⌝ }
     ensures { λ _. ⌜ Becomes (now (mem .entry)) (now (mem .exit))
         (extended (state-of (now (mem .entry))) before (entries-of (now (b .entry)) entries) commit) ⌝ }
 {
@@ -136,13 +113,9 @@ fn extend(mem: &mut [u64], before: u64, commit: u64, b: &[u8], entries: Entries)
 fn extend_by_new(mem: &mut [u64], before: u64, commit: u64, b: &[u8], entries: Entries, last: Last)
     requires held { ⌜ Held (now mem) ⌝ }
     requires low { ⌜ commit ≤ room-in (now mem) ⌝ }
-    requires there { ⌜ Entries-in (now b) entries ⌝ }
     requires within { ⌜ before ≤ last-index (state-of (now mem) .log) ⌝ }
-    requires room { ⌜ before + entries .count ≤ room-in (now mem) ⌝ }
-    requires row { ⌜ in-a-row before (entries-of (now b) entries) ≡ true ⌝ }
-    requires good { ⌜ All (Entry-fits (limits-of (now mem))) (entries-of (now b) entries) ⌝ }
-    requires index { ⌜ last .index ≡ last-index (entries-of (now b) entries) ⌝ }
-    requires term { ⌜ last .term ≡ last-term (entries-of (now b) entries) ⌝ }
+    requires can { ⌜ Can-take (now mem) (now b) before entries ⌝ }
+    requires last { ⌜ last ≡ last-in (entries-of (now b) entries) ⌝ }
     ensures { λ _. ⌜ Becomes (now (mem .entry)) (now (mem .exit))
         (extended-if (has-new (state-of (now (mem .entry))) (entries-of (now (b .entry)) entries))
         (state-of (now (mem .entry))) before (entries-of (now (b .entry)) entries) commit) ⌝ }
@@ -164,7 +137,7 @@ fn follow_leader(mem: &mut [u64], from: u64, term: u64)
     head::follow(mem, from);
 }
 
-// Entries of a message that the checks let pass: in a row after an index, within the room, and each of them good.
+// The entries come after the one at `before`, of the term `before_term`.
 pub fn append(
     mem: &mut [u64],
     b: &[u8],
@@ -179,10 +152,7 @@ pub fn append(
     requires here { ⌜ from < servers-in (now mem) ⌝ }
     requires low { ⌜ term ≤ last-of-all ⌝ }
     requires commit { ⌜ commit ≤ room-in (now mem) ⌝ }
-    requires there { ⌜ Entries-in (now b) entries ⌝ }
-    requires room { ⌜ before + entries .count ≤ room-in (now mem) ⌝ }
-    requires row { ⌜ in-a-row before (entries-of (now b) entries) ≡ true ⌝ }
-    requires good { ⌜ All (Entry-fits (limits-of (now mem))) (entries-of (now b) entries) ⌝ }
+    requires can { ⌜ Can-take (now mem) (now b) before entries ⌝ }
     ensures state { λ _. ⌜ Becomes (now (mem .entry)) (now (mem .exit))
         (appends (state-of (now (mem .entry))) from term before «before_term» (entries-of (now (b .entry)) entries) commit) ⌝ }
     ensures reply { λ r. ⌜ back (state-of (now (mem .entry))) from

@@ -1,9 +1,7 @@
 // A client's request at a leader: one entry more in its own log, which it has reason to send.
-ghost use mathlib.Core.Path.{_≡_};
-ghost use mathlib.Core.List.{List, _∷_};
-ghost use Prim.Native.Nat.{ℕ, _+_, _<_, _≤_};
+ghost use Prim.Native.Nat.{_<_};
 ghost use lib.ListN.{length};
-ghost use Rattle.servers.specs.Server.{State, last-index, with-request};
+ghost use Rattle.servers.specs.Server.{with-request};
 ghost use Rattle.texts.specs.Commands.{Good-command};
 ghost use Rattle.wire_read.specs.Means.{command-of, Command-in};
 ghost use Rattle.memory.specs.Layout.{clients-in, room-in};

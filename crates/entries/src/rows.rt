@@ -1,16 +1,11 @@
 // The log in a server's memory: its rows are changed where they stand, and its length with them.
-ghost use mathlib.Core.Path.{_≡_};
-ghost use mathlib.Core.Bool.{true};
-ghost use mathlib.Core.List.{List, _++_};
-ghost use Prim.Native.Nat.{ℕ, _+_, _-_, _*_, _<_, _≤_};
-ghost use lib.ListN.{length, getD, set, take, drop};
-ghost use Rattle.servers.specs.Server.{State, last-index, in-a-row};
-ghost use Rattle.texts.specs.Words.{All};
-ghost use Rattle.wire_read.specs.Means.{command-of, entries-of, Command-in, Entries-in};
+ghost use Prim.Native.Nat.{_<_, _≤_};
+ghost use Rattle.servers.specs.Server.{last-index};
+ghost use Rattle.wire_read.specs.Means.{command-of, entries-of, Command-in};
 ghost use Rattle.memory.specs.Layout.{room-in};
 ghost use Rattle.memory.specs.Fits.{Entry-fits};
 ghost use Rattle.state.specs.Held.{Held, Becomes, limits-of, state-of};
-ghost use Rattle.entries.specs.Steps.{next-entry, pushed, replaced};
+ghost use Rattle.entries.specs.Steps.{Can-take, next-entry, pushed, replaced};
 use log::append::push;
 use log::replace::replace;
 use log::row::Numbers;
@@ -42,11 +37,8 @@ pub fn push_entry(mem: &mut [u64], numbers: Numbers, b: &[u8], command: Command)
 // All after an index that the log has, or after 0, is replaced by the entries of a message.
 pub fn replace_entries(mem: &mut [u64], before: u64, b: &[u8], entries: Entries)
     requires held { ⌜ Held (now mem) ⌝ }
-    requires there { ⌜ Entries-in (now b) entries ⌝ }
     requires within { ⌜ before ≤ last-index (state-of (now mem) .log) ⌝ }
-    requires room { ⌜ before + entries .count ≤ room-in (now mem) ⌝ }
-    requires row { ⌜ in-a-row before (entries-of (now b) entries) ≡ true ⌝ }
-    requires good { ⌜ All (Entry-fits (limits-of (now mem))) (entries-of (now b) entries) ⌝ }
+    requires can { ⌜ Can-take (now mem) (now b) before entries ⌝ }
     ensures { λ _. ⌜ Becomes (now (mem .entry)) (now (mem .exit))
         (replaced (state-of (now (mem .entry))) before (entries-of (now (b .entry)) entries)) ⌝ }
 {

@@ -8,6 +8,7 @@ use Rattle.memory.proofs.Tests.{pick-true}
 use Rattle.state.specs.Held.{state-of}
 use Rattle.state.proofs.Laws.{next-then, said}
 use Rattle.entries.specs.Steps.{extended-if, accepts, accepted}
+use Rattle.entries.specs.declared.append.Last.{Last}
 use Rattle.entries.proofs.append.append.Needs as need
 use Rattle.entries.proofs.Taking.{appends-is, reply-is, before-low, taken-is}
 
@@ -20,14 +21,10 @@ extend-by-new-requires c κs =
     record {
       held = c .pre .held;
       low = c .pre .commit;
-      there = c .pre .there;
       within = before-low s (c .args .term) (c .args .before) (c .args .before-term) (c .pre .held .fits .1 .row)
           (sym (c .accepts-taken .ensures) ∙ c .if-not-taken .left);
-      room = c .pre .room;
-      row = c .pre .row;
-      good = c .pre .good;
-      index = c .last-of-last .ensures .index;
-      term = c .last-of-last .ensures .term;
+      can = c .pre .can;
+      last = c .last-of-last .ensures;
     }
 
 pub returns : need.returns
@@ -46,7 +43,7 @@ returns c =
     let whole : following h (advanced t (extended-if (has-new s es) s i es k)) ≡ appends s h t i u es k =
     taken-is s h t i es k ∙ sym (appends-is s h t i u es k (c .pre .held .fits .1 .row) ∙ pick-true _ _ _ yes) in
     let says : append-reply s t i u es ≡ appended t (c .last-of-last .result .index) true =
-    reply-is s t i u es ∙ (pick-true _ _ _ yes ∙ ap (λ (n : ℕ). appended t n true) (sym (c .last-of-last .ensures .index))) in
+    reply-is s t i u es ∙ (pick-true _ _ _ yes ∙ ap (λ (n : ℕ). appended t n true) (sym (ap (λ (x : Last). x .index) (c .last-of-last .ensures)))) in
     record {
       state = said m m₂ _ _ whole
           (next-then (λ l x. following h (advanced t x)) m m₁ m₂ (extended-if (has-new s es) s i es k)

@@ -6,6 +6,7 @@ use Rattle.wire_read.specs.Means.{entries-of}
 use Rattle.log.specs.Rows.{log-in}
 use Rattle.memory.specs.Layout.{log-part}
 use Rattle.state.specs.Held.{state-of}
+use Rattle.entries.specs.declared.append.Last.{Last}
 use Rattle.entries.proofs.append.has_new.Needs as need
 use Rattle.entries.proofs.Logs.{count-is}
 
@@ -17,4 +18,4 @@ returns c =
     ap (λ (n : ℕ). log-in n (c .log-part .result .now)) (c .last-index-len .ensures .word)
     ∙ ap (log-in _) (c .log-part .ensures .rows) in
     c .has-new .ensures (state-of m) es (sym log) (count-is (c .args .b .now) (c .args .entries) (c .pre .there))
-    (sym (c .pre .index)) (sym (c .pre .term))
+    (sym (ap (λ (x : Last). x .index) (c .pre .last))) (sym (ap (λ (x : Last). x .term) (c .pre .last)))

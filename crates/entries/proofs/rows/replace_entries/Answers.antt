@@ -30,9 +30,9 @@ returns c =
     let last = c .last-index-len .ensures .last in
     let low = c .last-index-len .ensures .low in
     let is = last-long m (c .pre .held) in
-    let count = count-is (c .args .b .now) (c .args .entries) (c .pre .there) in
+    let count = count-is (c .args .b .now) (c .args .entries) (c .pre .can .there) in
     replace-written m (c .replace .last .region) (c .args .before) (entries-of (c .args .b .now) (c .args .entries))
     (c .args .before + c .args .entries .count) at size (c .pre .held) (c .log-at-at .ensures) wide (omega arith) (c .pre .within)
-    (c .pre .room) (c .pre .row) (c .pre .good)
+    (c .pre .can .room) (c .pre .can .row) (c .pre .can .good)
     (c .replace .ensures (room-in m) (s .log) (omega arith) (g .row) (omega arith)
     (lent m at size (c .pre .held) (c .log-at-at .ensures) wide))
