@@ -1,0 +1,24 @@
+use native.Mathlib.Omega.{arith}
+use mathlib.Core.Path.{_≡_, ap, _∙_}
+use lib.ListN.{length}
+use Rattle.memory.proofs.Parts.{length-cached}
+use Rattle.state.specs.Held.{state-of}
+use Rattle.apply.specs.Applied.{session}
+use Rattle.apply.proofs.Sessions.{again-words}
+use Rattle.apply.proofs.session.is_again.Needs as need
+
+pub index-kept-0 : need.index-kept-0
+index-kept-0 c =
+    let l = ap length (c .session-part-kept .ensures) ∙ length-cached (session (state-of (c .args .mem .now)) (c .args .client)) in
+    omega arith
+
+pub index-kept-1 : need.index-kept-1
+index-kept-1 c =
+    let l = ap length (c .session-part-kept .ensures) ∙ length-cached (session (state-of (c .args .mem .now)) (c .args .client)) in
+    omega arith
+
+pub returns : need.returns
+returns c =
+    c .is-last .ensures
+    ∙ again-words (session (state-of (c .args .mem .now)) (c .args .client)) (c .session-part-kept .result .now) (c .args .number)
+    (c .session-part-kept .ensures)

@@ -1,0 +1,2 @@
+// What is committed is applied to the store in order, and the clients of this server are told.
+pub mod session;
