@@ -1,2 +1,3 @@
 // What is committed is applied to the store in order, and the clients of this server are told.
+pub mod one;
 pub mod session;
