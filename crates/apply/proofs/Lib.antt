@@ -1,2 +1,3 @@
 pub mod Sessions
 pub mod Doing
+pub mod Telling

@@ -1,3 +1,4 @@
 // What is committed is applied to the store in order, and the clients of this server are told.
 pub mod one;
 pub mod session;
+pub mod tell;

@@ -13,6 +13,7 @@ ghost use Rattle.texts.specs.Commands.{command-in};
 ghost use Rattle.store.specs.Region.{region-do};
 ghost use Rattle.store.specs.Calls.{Of-command};
 ghost use Rattle.log.specs.Places.{entry-in};
+ghost use Rattle.log.specs.Numbers.{numbers-of};
 ghost use Rattle.memory.specs.Layout.{clients-in, log-part, region-in};
 ghost use Rattle.state.specs.Held.{Held, Turns, limits-of, state-of};
 ghost use Rattle.apply.specs.Applied.{with-store-done, did, region-one, told-client};
@@ -75,6 +76,17 @@ fn client_to_tell(me: u64, numbers: Numbers, new: bool, again: bool) -> Option<u
     }
 }
 
+// The numbers of the entry at an index that the log has.
+fn numbers_at(mem: &[u64], index: usize) -> Numbers
+    requires held { ⌜ Held (now mem) ⌝ }
+    requires some { ⌜ 0 < index ⌝ }
+    requires there { ⌜ index ≤ length (state-of (now mem) .log) ⌝ }
+    ensures value { λ r. ⌜ r ≡ numbers-of (entry-in index (log-part (now (mem .entry)))) ⌝ }
+    ensures client { λ r. ⌜ r .client < clients-in (now (mem .entry)) ⌝ }
+{
+    find::numbers_at(log_part(mem), index)
+}
+
 // Applies the entry at an index that the log has, and says which client is to be told.
 pub fn do_one(mem: &mut [u64], index: usize) -> Option<u64>
     requires held { ⌜ Held (now mem) ⌝ }
@@ -87,7 +99,7 @@ pub fn do_one(mem: &mut [u64], index: usize) -> Option<u64>
     ensures told { λ r. ⌜ r ≡ told-client (tell-one (limits-of (now (mem .entry))) (state-of (now (mem .entry)))
         (entry-in index (log-part (now (mem .entry))))) ⌝ }
 {
-    let numbers = find::numbers_at(log_part(mem), index);
+    let numbers = numbers_at(mem, index);
     let client = numbers.client as usize;
     let new = is_new(mem, client, numbers.number);
     let again = is_again(mem, client, numbers.number);
