@@ -149,11 +149,16 @@ command-held m ws i h some there e = (
   ap command-in e ∙ command-read i (log-part m),
 )
 
+pub entry-client : (m : List ℕ) (i : ℕ) → Held m → 0 < i → i ≤ length (state-of m .log) → entry-in i (log-part m) .client < clients-in m
+entry-client m i h some there =
+    let a = row-held m i h some there .client in
+    let b = client-read i (log-part m) in
+    omega arith
+
 pub client-held : (m ws : List ℕ) (i : ℕ) (n : Numbers) → Held m → 0 < i → i ≤ length (state-of m .log) → ws ≡ log-part m
     → n ≡ numbers-of (entry-in i ws) → n .client < clients-in m
 client-held m ws i n h some there e k =
-    let a = row-held m i h some there .client in
-    let b = client-read i (log-part m) in
+    let a = entry-client m i h some there in
     let d = ap (λ (z : List ℕ). entry-in i z .client) e in
     let f = ap (λ (x : Numbers). x .client) k in
     omega arith

@@ -1,3 +1,5 @@
 pub mod Sessions
 pub mod Doing
 pub mod Telling
+pub mod Dues
+pub mod Going
