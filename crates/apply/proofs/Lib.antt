@@ -3,3 +3,4 @@ pub mod Doing
 pub mod Telling
 pub mod Dues
 pub mod Going
+pub mod Sizes

@@ -1,9 +1,9 @@
--- A client's session as words: its tests, what is written into it, and what is told from it.
+-- A client's session as words: the last number, what is written into it, and what is told from it.
 use mathlib.Core.Path.{_≡_, refl, sym, ap, _∙_}
-use mathlib.Core.Bool.{Bool, not, _&&_, _||_}
+use mathlib.Core.Bool.{Bool}
 use mathlib.Core.List.{List, [], _∷_, _++_}
 use Prim.Native.Nat.{ℕ, _+_, _-_, _*_, _≤_, _<_}
-use lib.Dec.{ltb, eqb}
+use lib.Dec.{eqb}
 use lib.ListN.{length, getD, set, take, drop}
 use native.Mathlib.Omega.{arith}
 use borrow.Rule.Slice.PartMut.{putMid}
@@ -18,22 +18,17 @@ use Rattle.memory.specs.Words.{cached-words, cached-in, cache-words, cache-in, 
 use Rattle.memory.proofs.Parts.{bit-again, length-cached, cache-again}
 use Rattle.memory.proofs.Each.{all-nth}
 use Rattle.state.specs.Held.{Held, state-of}
-use Rattle.apply.specs.Applied.{session, newer, same-again, answered, reply-in}
+use Rattle.apply.specs.declared.session.Last.{Last}
+use Rattle.apply.specs.Means.{last-of}
+use Rattle.apply.specs.Applied.{session, answered, reply-in}
 
--- the tests on the first two words
-pub newer-words : (x : Cached) (ws : List ℕ) (k : ℕ) → ws ≡ cached-words x
-    → (not (eqb (getD ws 0 0) 1) || ltb (getD ws 1 0) k) ≡ newer x k
+-- the first two words
+pub last-words : (x : Cached) (ws : List ℕ) → ws ≡ cached-words x
+    → _≡_ {A = Last} (record { done = eqb (getD ws 0 0) 1; number = getD ws 1 0 }) (last-of x)
 unfolding cached-words
-newer-words x ws k e =
-    ap (λ (z : List ℕ). not (eqb (getD z 0 0) 1) || ltb (getD z 1 0) k) e
-    ∙ ap (λ (b : Bool). not b || ltb (x .id) k) (bit-again (x .there))
-
-pub again-words : (x : Cached) (ws : List ℕ) (k : ℕ) → ws ≡ cached-words x
-    → (eqb (getD ws 0 0) 1 && eqb (getD ws 1 0) k) ≡ same-again x k
-unfolding cached-words
-again-words x ws k e =
-    ap (λ (z : List ℕ). eqb (getD z 0 0) 1 && eqb (getD z 1 0) k) e
-    ∙ ap (λ (b : Bool). b && eqb (x .id) k) (bit-again (x .there))
+last-words x ws e =
+    ap (λ (z : List ℕ). record { done = eqb (getD z 0 0) 1; number = getD z 1 0 }) e
+    ∙ ap (λ (b : Bool). record { done = b; number = x .id }) (bit-again (x .there))
 
 -- the words of a session that was written
 pub packed : (k : ℕ) (row a b : List ℕ) → length row ≡ 68 → length a ≡ 33 → length b ≡ 33

@@ -1,9 +1,8 @@
--- What applying an entry means, by parts: a client's number against its session, the state after a command, and who is told what.
+-- What applying an entry means, by parts: a client's session, the state after a command, and who is told what.
 -- Assumes nothing: these are definitions.
-use mathlib.Core.Bool.{Bool, true, false, not, _&&_, _||_}
+use mathlib.Core.Bool.{true}
 use mathlib.Core.List.{List, [], _∷_}
 use Prim.Native.Nat.{ℕ}
-use lib.Dec.{ltb, eqb}
 use Rattle.std.specs.declared.option.Option.{Option}
 use Rattle.std.specs.declared.option.Option.the-variants.{Some, None}
 use Rattle.servers.specs.Store.{pick, Command, Reply, done, reply}
@@ -14,13 +13,6 @@ use Rattle.store.specs.Region.{region-do}
 -- the session of a client
 abbrev pub session : State → ℕ → Cached
 session s c = nth no-cached (s .cache) c
-
--- whether a number is above the last done, or just the last done
-abbrev pub newer : Cached → ℕ → Bool
-newer x k = not (x .there) || ltb (x .id) k
-
-abbrev pub same-again : Cached → ℕ → Bool
-same-again x k = x .there && eqb (x .id) k
 
 -- the session after a command of that number
 abbrev pub answered : ℕ → Reply → Cached

@@ -17,9 +17,8 @@ ghost use Rattle.log.specs.Numbers.{numbers-of};
 ghost use Rattle.memory.specs.Layout.{clients-in, log-part, region-in};
 ghost use Rattle.state.specs.Held.{Held, Turns, limits-of, state-of};
 ghost use Rattle.apply.specs.Applied.{with-store-done, did, region-one, told-client};
-use crate::session::is_again;
-use crate::session::is_new;
 use crate::session::keep;
+use crate::session::last_done;
 use log::find;
 use log::row::Numbers;
 use state::limits::limits;
@@ -101,8 +100,9 @@ pub fn do_one(mem: &mut [u64], index: usize) -> Option<u64>
 {
     let numbers = numbers_at(mem, index);
     let client = numbers.client as usize;
-    let new = is_new(mem, client, numbers.number);
-    let again = is_again(mem, client, numbers.number);
+    let last = last_done(mem, client);
+    let new = last.is_new(numbers.number);
+    let again = last.is_again(numbers.number);
     let told = client_to_tell(limits(mem).me, numbers, new, again);
     if new {
         do_new(mem, index, client, numbers.number);

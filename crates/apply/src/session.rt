@@ -8,42 +8,46 @@ ghost use lib.ListN.{length};
 ghost use Rattle.memory.specs.Layout.{clients-in};
 ghost use Rattle.store.specs.Calls.{Of-perhaps};
 ghost use Rattle.state.specs.Held.{Held, Becomes, state-of};
-ghost use Rattle.apply.specs.Applied.{session, newer, same-again, answered, reply-in, with-session};
+ghost use Rattle.apply.specs.Applied.{session, answered, reply-in, with-session};
+ghost use Rattle.apply.specs.Means.{last-of};
 use state::parts::session_at;
 use state::parts::session_part;
 
 const SESSION: usize = 68;
 
-fn is_above(there: u64, last: u64, number: u64) -> bool
-    ensures { λ r. ⌜ r ≡ (not (eqb there 1) || ltb last number) ⌝ }
-{
-    there != 1 || last < number
+// The last number done for a client, if any was.
+#[derive(Clone, Copy)]
+pub struct Last {
+    pub done: bool,
+    pub number: u64,
 }
 
-fn is_last(there: u64, last: u64, number: u64) -> bool
-    ensures { λ r. ⌜ r ≡ (eqb there 1 && eqb last number) ⌝ }
-{
-    there == 1 && last == number
+impl Last {
+    // Whether a command of this number is to be done: its number is above the last done.
+    pub fn is_new(self, number: u64) -> bool
+        ensures { λ r. ⌜ r ≡ (not (self .done) || ltb (self .number) number) ⌝ }
+    {
+        !self.done || self.number < number
+    }
+
+    // Whether it is just the last done, asked again.
+    pub fn is_again(self, number: u64) -> bool
+        ensures { λ r. ⌜ r ≡ (self .done && eqb (self .number) number) ⌝ }
+    {
+        self.done && self.number == number
+    }
 }
 
-// Whether a client's command of this number is to be done: its number is above the last done.
-pub fn is_new(mem: &[u64], client: usize, number: u64) -> bool
+pub fn last_done(mem: &[u64], client: usize) -> Last
     requires held { ⌜ Held (now mem) ⌝ }
     requires there { ⌜ client < clients-in (now mem) ⌝ }
-    ensures { λ r. ⌜ r ≡ newer (session (state-of (now (mem .entry))) client) number ⌝ }
+    ensures { λ r. ⌜ r ≡ last-of (session (state-of (now (mem .entry))) client) ⌝ }
 {
     let kept = session_part(mem, client);
-    is_above(kept[0], kept[1], number)
-}
-
-// Whether it is just the last done, asked again.
-pub fn is_again(mem: &[u64], client: usize, number: u64) -> bool
-    requires held { ⌜ Held (now mem) ⌝ }
-    requires there { ⌜ client < clients-in (now mem) ⌝ }
-    ensures { λ r. ⌜ r ≡ same-again (session (state-of (now (mem .entry))) client) number ⌝ }
-{
-    let kept = session_part(mem, client);
-    is_last(kept[0], kept[1], number)
+    Last {
+        done: kept[0] == 1,
+        number: kept[1],
+    }
 }
 
 fn pack_session(row: &mut [u64], number: u64, after: &[u64], before: &[u64])

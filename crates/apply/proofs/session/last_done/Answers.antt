@@ -4,8 +4,8 @@ use lib.ListN.{length}
 use Rattle.memory.proofs.Parts.{length-cached}
 use Rattle.state.specs.Held.{state-of}
 use Rattle.apply.specs.Applied.{session}
-use Rattle.apply.proofs.Sessions.{again-words}
-use Rattle.apply.proofs.session.is_again.Needs as need
+use Rattle.apply.proofs.Sessions.{last-words}
+use Rattle.apply.proofs.session.last_done.Needs as need
 
 pub index-kept-0 : need.index-kept-0
 index-kept-0 c =
@@ -19,6 +19,4 @@ index-kept-1 c =
 
 pub returns : need.returns
 returns c =
-    c .is-last .ensures
-    ∙ again-words (session (state-of (c .args .mem .now)) (c .args .client)) (c .session-part-kept .result .now) (c .args .number)
-    (c .session-part-kept .ensures)
+    last-words (session (state-of (c .args .mem .now)) (c .args .client)) (c .session-part-kept .result .now) (c .session-part-kept .ensures)
