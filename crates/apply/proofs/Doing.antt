@@ -2,14 +2,14 @@
 use mathlib.Core.Path.{_≡_, refl, sym, ap, subst, _∙_}
 use mathlib.Core.Logic.{inl, inr}
 use mathlib.Core.List.{List, [], _∷_, _++_}
-use Prim.Native.Nat.{ℕ, zero, suc, _+_, _*_, _-_, _≤_, _<_}
+use Prim.Native.Nat.{ℕ, suc, _+_, _*_, _-_, _≤_, _<_}
 use lib.ListN.{length, getD, take, drop, replicate}
 use native.Mathlib.Omega.{arith}
 use borrow.Rule.Slice.PartMut.{putMid}
 use Rattle.std.proofs.shelf.Tests.{cases-lt}
 use Rattle.std.proofs.shelf.Lists.{append-assoc, drop-at, take-at, take-rest}
-use Rattle.servers.specs.Store.{Command, Reply, Store, done, reply}
-use Rattle.servers.specs.Server.{Entry, Limits, State, set-at, with-done}
+use Rattle.servers.specs.Store.{Command, Store, done, reply}
+use Rattle.servers.specs.Server.{Entry, Limits}
 use Rattle.texts.specs.Words.{All, perhaps-words, perhaps-in}
 use Rattle.texts.specs.Commands.{command-words, command-in, Good-command}
 use Rattle.texts.proofs.Cells.{perhaps-back}
@@ -26,10 +26,10 @@ use Rattle.log.proofs.Rows.{length-row, length-log-words, command-back}
 use Rattle.memory.specs.Layout.{clients-in, room-in, store-at, log-part, region-in}
 use Rattle.memory.specs.Fits.{Entry-fits}
 use Rattle.memory.proofs.Stored.{done-good, done-long, reply-good}
-use Rattle.state.specs.Held.{Held, Turns, Becomes, limits-of, state-of}
+use Rattle.state.specs.Held.{Held, Turns, limits-of, state-of}
 use Rattle.state.proofs.PutBack.{log-held}
 use Rattle.state.proofs.Sessions.{store-written}
-use Rattle.apply.specs.Applied.{answered, reply-in, with-session, with-store-done, did}
+use Rattle.apply.specs.Applied.{reply-in, with-store-done}
 
 -- the store's region as it is lent
 pub region-lent : (m : List ℕ) (at : ℕ) → at ≡ store-at m → take (length m - at) (drop at m) ≡ region-in m
@@ -75,23 +75,8 @@ reply-read x st a b g h u v =
       of-perhaps 32 a (reply x st .now) u (good .0),
       of-perhaps 32 b (reply x st .old) v (good .1),
       ap (λ (z : List (List ℕ)). record { now = z; old = perhaps-in b }) n
-      ∙ ap (λ (z : List (List ℕ)). record { now = reply x st .now; old = z }) o,
+          ∙ ap (λ (z : List (List ℕ)). record { now = reply x st .now; old = z }) o,
     )
-
--- the store first, then the session
-pub did-both : (m m₁ m₂ : List ℕ) (x : Command) (c k : ℕ) (a b : List ℕ)
-    → Turns m m₁ (with-store-done x (state-of m)) (region-do x (region-in m))
-    → Becomes m₁ m₂ (with-session c (answered k (reply-in a b)) (state-of m₁)) → reply-in a b ≡ reply x (state-of m .store)
-    → Turns m m₂ (did x c k (state-of m)) (region-do x (region-in m))
-did-both m m₁ m₂ x c k a b u v e =
-    let s : State = state-of m in
-    record {
-      held = v .held;
-      state = v .state ∙ (ap (with-session c (answered k (reply-in a b))) (u .state)
-          ∙ ap (λ (q : Reply). with-done (done x (s .store)) (set-at (s .cache) c (answered k q)) s) e);
-      limits = v .limits ∙ u .limits;
-      region = v .region ∙ u .region;
-    }
 
 -- what holds of the row of each entry holds of each row of a log, whatever stands after it
 last-row : (es : List Entry) (e : Entry) (more : List ℕ) → take 80 (drop (80 * length es) (log-words es ++ (row-words e ++ more))) ≡ row-words e
@@ -105,14 +90,14 @@ each-row P Q by [] more g i some most = absurd (omega arith)
 each-row P Q by (e ∷ es) more g i some most =
     let a = append-assoc (log-words es) (row-words e) more in
     subst (λ (ws : List ℕ). P (row-at i ws)) (sym a) (
-      elim (cases-lt i (suc (length es))) [
-        | inl k ↦ each-row P Q by es (row-words e ++ more) (g .1) i some (omega arith)
-        | inr k ↦
-            let z : i - 1 ≡ length es = omega arith in
-            let at : row-at i (log-words es ++ (row-words e ++ more)) ≡ row-words e =
-            ap (λ (n : ℕ). take 80 (drop (80 * n) (log-words es ++ (row-words e ++ more)))) z ∙ last-row es e more in
-            subst P (sym at) (by e (g .0))
-      ]
+    elim (cases-lt i (suc (length es))) [
+      | inl k ↦ each-row P Q by es (row-words e ++ more) (g .1) i some (omega arith)
+      | inr k ↦
+          let z : i - 1 ≡ length es = omega arith in
+          let at : row-at i (log-words es ++ (row-words e ++ more)) ≡ row-words e =
+          ap (λ (n : ℕ). take 80 (drop (80 * n) (log-words es ++ (row-words e ++ more)))) z ∙ last-row es e more in
+          subst P (sym at) (by e (g .0))
+    ]
     )
 
 -- the row of an entry: its command can be done, and its client is there

@@ -1,33 +1,16 @@
 -- What is due, one entry at a time: the definitions apply all and then set the applied index, the code sets it with each entry.
-use mathlib.Core.Path.{_≡_, refl, sym, ap, subst, _∙_}
-use mathlib.Core.Bool.{Bool, true, false, _&&_, _||_}
+use mathlib.Core.Path.{_≡_, refl, sym, ap, _∙_}
+use mathlib.Core.Bool.{Bool, true, false}
 use mathlib.Core.List.{List, [], _∷_, _++_}
-use Prim.Native.Nat.{ℕ, zero, suc, _+_, _*_, _-_, _≤_, _<_, min}
-use lib.Dec.{ltb, eqb}
+use Prim.Native.Nat.{ℕ, _+_, _-_, _≤_, _<_, min}
 use lib.ListN.{length, getD}
 use native.Mathlib.Omega.{arith}
 use mathlib.Core.Logic.{inl, inr}
 use Rattle.std.proofs.shelf.Tests.{cases-lt, lt-ltb, le-ltb}
 use Rattle.std.proofs.shelf.Lists.{append-assoc}
 use Rattle.servers.specs.Store.{pick}
-use Rattle.servers.specs.Server.{
-  Entry,
-  Said,
-  Limits,
-  State,
-  at-least,
-  with-applied,
-  due,
-  is-new,
-  do-one,
-  tell-one,
-  do-all,
-  tell-all,
-  dues,
-  finished,
-}
+use Rattle.servers.specs.Server.{Entry, Said, Limits, State, at-least, with-applied, due, is-new, do-one, tell-one, do-all, tell-all, dues, finished}
 use Rattle.wire.specs.Write.{write-said, write-saids}
-use Rattle.store.specs.Region.{region-do}
 use Rattle.log.specs.Places.{entry-in}
 use Rattle.log.proofs.Places.{log-in-row, due-in, due-none, due-past}
 use Rattle.memory.specs.Layout.{log-part}

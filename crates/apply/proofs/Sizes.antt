@@ -1,8 +1,7 @@
 -- How many bytes telling takes: the longest reply, and one at most for each entry that is due.
-use mathlib.Core.Path.{_≡_, ap, _∙_}
-use mathlib.Core.Bool.{Bool, true, false}
+use mathlib.Core.Path.{ap}
 use mathlib.Core.List.{List, [], _∷_, _++_}
-use Prim.Native.Nat.{ℕ, suc, _+_, _*_, _-_, _≤_, _<_}
+use Prim.Native.Nat.{ℕ, suc, _+_, _*_, _-_, _≤_}
 use lib.ListN.{length}
 use native.Mathlib.Omega.{arith}
 use Rattle.std.proofs.shelf.Lists.{length-append}
@@ -14,7 +13,7 @@ use Rattle.wire_write.proofs.Texts.{length-number, length-text}
 use Rattle.memory.specs.Words.{Good-cached}
 use Rattle.memory.specs.Fits.{Entry-fits, Mid}
 use Rattle.memory.specs.Layout.{room-in, region-in}
-use Rattle.memory.proofs.Tests.{bool-by, pick-by}
+use Rattle.memory.proofs.Tests.{pick-by}
 use Rattle.memory.proofs.Each.{all-nth, all-due}
 use Rattle.memory.proofs.Logs.{due-few}
 use Rattle.memory.proofs.Stored.{reply-good}

@@ -2,7 +2,7 @@
 use mathlib.Core.Path.{_≡_, refl, sym, ap, _∙_}
 use mathlib.Core.Bool.{Bool, true, false, _&&_, _||_}
 use mathlib.Core.List.{List, [], _∷_, _++_}
-use Prim.Native.Nat.{ℕ, zero, suc, _+_, _*_, _-_, _≤_, _<_}
+use Prim.Native.Nat.{ℕ, zero, suc, _+_, _-_, _≤_, _<_}
 use lib.Dec.{eqb}
 use lib.ListN.{length, getD, take, drop}
 use native.Mathlib.Omega.{arith}
@@ -11,20 +11,7 @@ use Rattle.std.proofs.shelf.Tests.{and-parts, eqb-true}
 use Rattle.std.specs.declared.option.Option.{Option}
 use Rattle.std.specs.declared.option.Option.the-variants.{Some, None}
 use Rattle.servers.specs.Store.{pick, Reply, reply}
-use Rattle.servers.specs.Server.{
-  Entry,
-  Said,
-  Cached,
-  Limits,
-  State,
-  nth,
-  set-at,
-  no-cached,
-  is-new,
-  is-again,
-  do-one,
-  tell-one,
-}
+use Rattle.servers.specs.Server.{Entry, Said, Cached, Limits, State, nth, set-at, no-cached, is-new, is-again, do-one, tell-one}
 use Rattle.texts.specs.Words.{perhaps-in}
 use Rattle.wire.specs.Write.{write-number, write-perhaps, write-said, write-saids}
 use Rattle.memory.specs.Words.{bit, cached-in}
@@ -87,7 +74,7 @@ said-kept l s e h t =
     let x : Cached = session s c in
     pick-true (tells l s e) _ [] t
     ∙ bool-by (λ (b : Bool). is-new s e ≡ b
-        → says e (e .id) (pick (is-new s e) q (x .reply)) ≡ kept-for c (session (do-one s e) c) ∷ []) (is-new s e)
+    → says e (e .id) (pick (is-new s e) q (x .reply)) ≡ kept-for c (session (do-one s e) c) ∷ []) (is-new s e)
     (λ r n. ap (says e (e .id)) (pick-true _ q (x .reply) n)
     ∙ (ap (λ (y : Cached). kept-for c y ∷ []) (sym (nth-set (s .cache) c (answered (e .id) q) h))
     ∙ ap (λ (z : State). kept-for c (session z c) ∷ []) (sym (pick-true _ _ s n))))

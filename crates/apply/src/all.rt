@@ -1,9 +1,8 @@
 // All that is committed and not yet applied is applied in order, and the clients of this server are told.
 ghost use mathlib.Core.Path.{_≡_};
-ghost use mathlib.Core.Bool.{Bool};
-ghost use Prim.Native.Nat.{ℕ, _+_, _-_, _*_, _<_, _≤_, min};
-ghost use lib.ListN.{length, getD};
-ghost use Rattle.servers.specs.Server.{State, at-least, with-applied, tell-one, tell-all, dues, finished};
+ghost use Prim.Native.Nat.{_+_, _-_, _<_, _≤_, min};
+ghost use lib.ListN.{length};
+ghost use Rattle.servers.specs.Server.{at-least, with-applied, tell-one, tell-all, dues, finished};
 ghost use Rattle.wire.specs.Write.{write-saids};
 ghost use Rattle.wire_write.specs.Put.{Writes};
 ghost use Rattle.log.specs.Places.{entry-in};

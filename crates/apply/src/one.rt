@@ -1,22 +1,21 @@
 // One entry of the log is applied: a command that is new is done in the store and its reply kept in the client's session; any
 // other changes nothing.
 ghost use mathlib.Core.Path.{_≡_};
-ghost use mathlib.Core.Bool.{Bool, _&&_, _||_};
-ghost use Prim.Native.Nat.{ℕ, _+_, _-_, _*_, _<_, _≤_};
+ghost use mathlib.Core.Bool.{_&&_, _||_};
+ghost use Prim.Native.Nat.{_-_, _<_, _≤_};
 ghost use lib.Dec.{eqb};
 ghost use lib.ListN.{length};
 ghost use Rattle.std.specs.declared.option.Option.the-variants.{Some, None};
 ghost use Rattle.servers.specs.Store.{pick, reply};
-ghost use Rattle.servers.specs.Server.{State, do-one, tell-one};
-ghost use Rattle.texts.specs.Words.{perhaps-words};
+ghost use Rattle.servers.specs.Server.{do-one, tell-one};
 ghost use Rattle.texts.specs.Commands.{command-in};
 ghost use Rattle.store.specs.Region.{region-do};
-ghost use Rattle.store.specs.Calls.{Of-command};
+ghost use Rattle.store.specs.Calls.{Of-command, Of-perhaps};
 ghost use Rattle.log.specs.Places.{entry-in};
 ghost use Rattle.log.specs.Numbers.{numbers-of};
 ghost use Rattle.memory.specs.Layout.{clients-in, log-part, region-in};
 ghost use Rattle.state.specs.Held.{Held, Turns, limits-of, state-of};
-ghost use Rattle.apply.specs.Applied.{with-store-done, did, region-one, told-client};
+ghost use Rattle.apply.specs.Applied.{reply-in, with-store-done, did, region-one, told-client};
 use crate::session::keep;
 use crate::session::last_done;
 use log::find;
@@ -36,13 +35,25 @@ fn do_in_store(mem: &mut [u64], command: &[u64], after: &mut [u64], before: &mut
     ensures turns { λ _. ⌜ Turns (now (mem .entry)) (now (mem .exit))
         (with-store-done (command-in (now (command .entry))) (state-of (now (mem .entry))))
         (region-do (command-in (now (command .entry))) (region-in (now (mem .entry)))) ⌝ }
-    ensures after { λ _. ⌜ now (after .exit)
-        ≡ perhaps-words 32 (reply (command-in (now (command .entry))) (state-of (now (mem .entry)) .store) .now) ⌝ }
-    ensures before { λ _. ⌜ now (before .exit)
-        ≡ perhaps-words 32 (reply (command-in (now (command .entry))) (state-of (now (mem .entry)) .store) .old) ⌝ }
+    ensures after { λ _. ⌜ Of-perhaps 32 (now (after .exit)) ⌝ }
+    ensures before { λ _. ⌜ Of-perhaps 32 (now (before .exit)) ⌝ }
+    ensures reply { λ _. ⌜ reply-in (now (after .exit)) (now (before .exit))
+        ≡ reply (command-in (now (command .entry))) (state-of (now (mem .entry)) .store) ⌝ }
 {
     let at = store_at(mem);
     do_command(&mut mem[at..], command, after, before);
+}
+
+// The words of the command at an index that the log has.
+fn command_at(mem: &[u64], index: usize) -> &[u64]
+    requires held { ⌜ Held (now mem) ⌝ }
+    requires some { ⌜ 0 < index ⌝ }
+    requires there { ⌜ index ≤ length (state-of (now mem) .log) ⌝ }
+    ensures command { λ r. ⌜ Of-command (now r) ⌝ }
+    ensures long { λ r. ⌜ length (now r) ≡ 76 ⌝ }
+    ensures value { λ r. ⌜ command-in (now r) ≡ entry-in index (log-part (now (mem .entry))) .command ⌝ }
+{
+    find::command_at(log_part(mem), index)
 }
 
 // Does the command of an entry, and keeps its reply.
@@ -57,7 +68,7 @@ fn do_new(mem: &mut [u64], index: usize, client: usize, number: u64)
         (region-do (entry-in index (log-part (now (mem .entry))) .command) (region-in (now (mem .entry)))) ⌝ }
 {
     let mut command = [0u64; 76];
-    command.copy_from_slice(find::command_at(log_part(mem), index));
+    command.copy_from_slice(command_at(mem, index));
     let mut after = [0u64; 33];
     let mut before = [0u64; 33];
     do_in_store(mem, &command, &mut after, &mut before);

@@ -1,8 +1,7 @@
 // What a client is told, written straight from its session: the last number done, and its reply.
 ghost use mathlib.Core.Path.{_≡_};
-ghost use Prim.Native.Nat.{ℕ, _+_, _-_, _*_, _<_, _≤_};
+ghost use Prim.Native.Nat.{_+_, _-_, _<_, _≤_};
 ghost use lib.ListN.{length, getD};
-ghost use Rattle.servers.specs.Server.{State};
 ghost use Rattle.wire.specs.Write.{write-said};
 ghost use Rattle.wire_write.specs.Put.{Writes};
 ghost use Rattle.memory.specs.Words.{cached-in};

@@ -1,10 +1,9 @@
 use native.Mathlib.Omega.{arith}
-use mathlib.Core.Path.{_≡_, sym, ap, _∙_}
-use mathlib.Core.List.{List, []}
-use Prim.Native.Nat.{ℕ, _+_, _≤_}
+use mathlib.Core.Path.{sym, ap, _∙_}
+use mathlib.Core.List.{List}
+use Prim.Native.Nat.{ℕ}
 use lib.ListN.{length}
-use Rattle.servers.specs.Server.{Said}
-use Rattle.wire.specs.Write.{write-said, write-saids}
+use Rattle.wire.specs.Write.{write-saids}
 use Rattle.wire_write.proofs.Putting.{writes-as, writes-none}
 use Rattle.state.specs.Held.{limits-of, state-of}
 use Rattle.apply.specs.Applied.{session, kept-for, told-client}

@@ -1,5 +1,5 @@
 use native.Mathlib.Omega.{arith}
-use mathlib.Core.Path.{_≡_, ap, _∙_}
+use mathlib.Core.Path.{ap, _∙_}
 use mathlib.Core.List.{List}
 use Prim.Native.Nat.{ℕ, _-_}
 use lib.ListN.{length, take, drop}
@@ -8,7 +8,8 @@ use Rattle.texts.specs.Words.{perhaps-words}
 use Rattle.texts.specs.Commands.{command-in}
 use Rattle.store.specs.Region.{items-of}
 use Rattle.state.proofs.Laws.{long}
-use Rattle.apply.proofs.Doing.{region-lent, region-held, region-room, stored}
+use Rattle.state.specs.Held.{state-of}
+use Rattle.apply.proofs.Doing.{region-lent, region-held, region-room, stored, reply-read}
 use Rattle.apply.proofs.one.do_in_store.Needs as need
 
 pub part-do-command-count : need.part-do-command-count
@@ -39,9 +40,14 @@ returns c =
     let e = region-lent m at p in
     let z = long m (c .pre .held) in
     let d = c .do-command .ensures in
+    let read = reply-read x (state-of m .store) (c .do-command .last .after) (c .do-command .last .before) (c .pre .command .good)
+    (c .pre .held .fits .3 .items)
+    (d .after ∙ ap (λ (y : List ℕ). perhaps-words 32 (reply x (items-of y) .now)) e)
+    (d .before ∙ ap (λ (y : List ℕ). perhaps-words 32 (reply x (items-of y) .old)) e) in
     record {
       turns = stored m x r (c .do-command .last .region) (c .do-command .last .after) (c .do-command .last .before) at (length m - at)
           (c .pre .held) e p (omega arith) (c .pre .few) (c .pre .command .good) d;
-      after = d .after ∙ ap (λ (y : List ℕ). perhaps-words 32 (reply x (items-of y) .now)) e;
-      before = d .before ∙ ap (λ (y : List ℕ). perhaps-words 32 (reply x (items-of y) .old)) e;
+      after = read .0;
+      before = read .1;
+      reply = read .2;
     }
