@@ -1,0 +1,4 @@
+pub mod Journals
+pub mod Parts
+pub mod Letters
+pub mod Explained

@@ -1,0 +1,2 @@
+// A group of servers in one process: what it keeps, and what is promised of it.
+pub mod promises;
