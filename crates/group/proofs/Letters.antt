@@ -21,7 +21,7 @@ use Rattle.group.specs.Parts.{Can-happen}
 use Rattle.group.specs.Letters.{Points, Indexed, coming, Index-stays, Index-grows, Letter-comes}
 
 -- a part within what didn't change
-same-part : (used from len : ℕ) (xs ys : List ℕ) → from + len ≤ used → take used ys ≡ take used xs
+pub same-part : (used from len : ℕ) (xs ys : List ℕ) → from + len ≤ used → take used ys ≡ take used xs
     → take len (drop from ys) ≡ take len (drop from xs)
 same-part used from len xs ys low h =
     sym (drop-take from len ys)

@@ -1,2 +1,5 @@
 // A group of servers in one process: what it keeps, and what is promised of it.
+pub mod happen;
+pub mod journal;
 pub mod promises;
+pub mod stub;
