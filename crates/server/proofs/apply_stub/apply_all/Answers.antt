@@ -1,0 +1,3 @@
+use Rattle.server.proofs.apply_stub.apply_all.Needs as need
+pub returns : need.returns
+returns c = ?

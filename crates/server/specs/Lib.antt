@@ -1,0 +1,4 @@
+pub mod Reached
+pub mod Answered
+pub mod First
+pub mod Opening
