@@ -124,3 +124,17 @@ length-does ss ls =
     let n = length-number (length ss) in
     let k = length-number (length ls) in
     omega arith
+
+-- there is room for the letters after what is told
+pub letters-fit : (m m₁ m₂ m₃ : List ℕ) (b : Bool) (x : First) (n : ℕ) → Pieces m m₁ m₂ m₃ b
+    → length (write-answer (finish-answer (limits-of m) (state-of m) (first-of (limits-of m) (state-of m) x))) ≤ n
+    → 9 + length (write-saids (tell-all (limits-of m₂) (state-of m₂) (dues (state-of m₂)))) + 8
+    + length (write-letters (letters-of b (limits-of m₃) (state-of m₃) x)) ≤ n
+letters-fit m m₁ m₂ m₃ b x n p h =
+    let l : Limits = limits-of m in
+    let ls : List Letter = first-of l (state-of m) x ++ sends-now l (settles l (state-of m)) in
+    let ss : List Said = tell-all l (ready m) (dues (ready m)) in
+    let a = length-does ss ls in
+    let t = ap (λ (z : List Said). length (write-saids z)) (pieces-tell m m₁ m₂ m₃ b p) in
+    let s = ap (λ (z : List Letter). length (write-letters z)) (pieces-send m m₁ m₂ m₃ b x p) in
+    omega arith

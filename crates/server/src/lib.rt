@@ -7,3 +7,6 @@ pub mod first;
 pub mod open;
 pub mod refuse;
 pub mod settle;
+pub mod step;
+pub mod votes;
+pub mod writes;

@@ -3,14 +3,13 @@ use mathlib.Core.Path.{_≡_, sym, ap, subst, _∙_}
 use mathlib.Core.List.{List}
 use Prim.Native.Nat.{ℕ}
 use lib.ListN.{length}
-use Rattle.servers.specs.Server.{Said, Letter, does, tell-all, dues}
-use Rattle.wire.specs.Write.{write-saids, write-letters, write-answer}
+use Rattle.servers.specs.Server.{tell-all, dues}
+use Rattle.wire.specs.Write.{write-saids}
 use Rattle.wire_write.proofs.Putting.{length-put}
 use Rattle.state.specs.Held.{limits-of, state-of}
-use Rattle.server.specs.Answered.{finish-answer}
 use Rattle.server.specs.First.{letters-of}
-use Rattle.server.proofs.Finishing.{Pieces, pieces-turn, pieces-tell, pieces-send, length-does}
-use Rattle.server.proofs.Written.{begins, does-written, does-as}
+use Rattle.server.proofs.Finishing.{Pieces, pieces-turn, pieces-tell, pieces-send, letters-fit}
+use Rattle.server.proofs.Written.{does-written, does-answered}
 use Rattle.server.proofs.finish.finish.Needs as need
 
 pub write-letters-sent-requires : need.write-letters-sent-requires
@@ -25,16 +24,12 @@ write-letters-sent-requires c κs =
       why = c .take-send-send .ensures .value;
       done = c .apply-all-told .ensures .state;
     } in
-    let ss : List Said = tell-all (limits-of m₂) (state-of m₂) (dues (state-of m₂)) in
-    let ls : List Letter = letters-of (c .take-send-send .result) (limits-of m₃) (state-of m₃) (c .args .first) in
-    let e : does ss ls ≡ finish-answer _ _ _ = does-as (pieces-tell m m₁ m₂ m₃ _ p) (pieces-send m m₁ m₂ m₃ _ (c .args .first) p) in
+    let fit = letters-fit m m₁ m₂ m₃ (c .take-send-send .result) (c .args .first) (length (c .args .out .now)) p (c .pre .room .answer) in
     let w = c .apply-all-told .ensures .bytes in
-    let n = length-does ss ls in
-    let k = ap (λ a. length (write-answer a)) e in
-    let fits = c .pre .room .answer in
     let next = w .next in
     let room = w .room in
-    let same = ap length (w .bytes) ∙ length-put 9 (write-saids ss) (c .args .out .now) (omega arith) in
+    let ss : List ℕ = write-saids (tell-all (limits-of m₂) (state-of m₂) (dues (state-of m₂))) in
+    let same = ap length (w .bytes) ∙ length-put 9 ss (c .args .out .now) (omega arith) in
     record { held = c .apply-all-told .ensures .state .held; room = omega arith }
 
 pub returns : need.returns
@@ -43,10 +38,17 @@ returns c =
     let m₁ : List ℕ = c .settle .last .mem in
     let m₂ : List ℕ = c .take-send-send .last .mem in
     let m₃ : List ℕ = c .apply-all-told .last .mem in
-    let p : Pieces m m₁ m₂ m₃ (c .take-send-send .result) = record {
+    let b = c .take-send-send .result in
+    let p : Pieces m m₁ m₂ m₃ b = record {
       settled = c .settle .ensures;
       sent = c .take-send-send .ensures .state;
       why = c .take-send-send .ensures .value;
       done = c .apply-all-told .ensures .state;
     } in
-    ?
+    let ss = tell-all (limits-of m₂) (state-of m₂) (dues (state-of m₂)) in
+    let ls = letters-of b (limits-of m₃) (state-of m₃) (c .args .first) in
+    let w = does-written ss ls (c .apply-all-told .ensures .count) (c .apply-all-told .ensures .bytes)
+    (c .write-letters-sent .ensures .bytes) (c .write-does-head .ensures .bytes) (omega (arith, c .write-does-head .ensures .next)) in
+    let a = does-answered (pieces-tell m m₁ m₂ m₃ b p) (pieces-send m m₁ m₂ m₃ b (c .args .first) p)
+    (c .apply-all-told .ensures .count) (c .write-letters-sent .ensures .count) w in
+    record { turns = pieces-turn m m₁ m₂ m₃ b p; answer-is = a .0; bytes = a .1 }

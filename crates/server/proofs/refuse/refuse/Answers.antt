@@ -12,12 +12,12 @@ use Rattle.server.proofs.refuse.refuse.Needs as need
 
 pub returns : need.returns
 returns c =
-    let n = c .number .ensures in
-    let p = c .place .ensures in
+    let n = c .number-number .ensures in
+    let p = c .place-place .ensures in
     record {
-      answer = ap (λ (k : ℕ). Refused k (c .place .result)) n ∙ ap (Refused (refusal-number (c .args .refusal))) p;
+      answer = ap (λ (k : ℕ). Refused k (c .place-place .result)) n ∙ ap (Refused (refusal-number (c .args .refusal))) p;
       bytes = begins (writes-as
-      (ap (λ (k : ℕ). write-answer (refused k (c .place .result))) n
+      (ap (λ (k : ℕ). write-answer (refused k (c .place-place .result))) n
       ∙ ap (λ (k : ℕ). write-answer (refused (refusal-number (c .args .refusal)) k)) p)
       (c .write-refused .ensures .bytes));
     }
