@@ -5,3 +5,5 @@ pub mod Below
 pub mod Answering
 pub mod Events
 pub mod Reaching
+pub mod Steps
+pub mod Opened

@@ -1,0 +1,4 @@
+use Rattle.server.proofs.open.write_new.Needs as need
+
+pub returns : need.returns
+returns c = ?
