@@ -16,7 +16,7 @@ use Rattle.log.specs.Places.{entry-in}
 use Rattle.log.proofs.Places.{log-in-row, due-in, due-none, due-past}
 use Rattle.memory.specs.Layout.{log-part}
 use Rattle.memory.specs.Program.{region-all}
-use Rattle.memory.proofs.Tests.{bool-by, pick-true, pick-false}
+use Rattle.servers.proofs.Tests.{bool-by, pick-true, pick-false}
 use Rattle.state.specs.Held.{state-of}
 use Rattle.apply.specs.Applied.{did, next-one, region-one}
 

@@ -13,7 +13,7 @@ use Rattle.wire_write.proofs.Texts.{length-number, length-text}
 use Rattle.memory.specs.Words.{Good-cached}
 use Rattle.memory.specs.Fits.{Entry-fits, Mid}
 use Rattle.memory.specs.Layout.{room-in, region-in}
-use Rattle.memory.proofs.Tests.{pick-by}
+use Rattle.servers.proofs.Tests.{pick-by}
 use Rattle.memory.proofs.Each.{all-nth, all-due}
 use Rattle.memory.proofs.Logs.{due-few}
 use Rattle.memory.proofs.Stored.{reply-good}

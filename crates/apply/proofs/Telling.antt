@@ -15,7 +15,7 @@ use Rattle.servers.specs.Server.{Entry, Said, Cached, Limits, State, nth, set-a
 use Rattle.texts.specs.Words.{perhaps-in}
 use Rattle.wire.specs.Write.{write-number, write-perhaps, write-said, write-saids}
 use Rattle.memory.specs.Words.{bit, cached-in}
-use Rattle.memory.proofs.Tests.{bool-by, pick-by, pick-true, pick-false}
+use Rattle.servers.proofs.Tests.{bool-by, pick-by, pick-true, pick-false}
 use Rattle.apply.specs.Applied.{session, answered, kept-for, told-client}
 
 -- a part of a session's words, and the bytes that are written from it

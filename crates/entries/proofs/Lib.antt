@@ -1,0 +1,3 @@
+pub mod Logs
+pub mod Taking
+pub mod Given

@@ -1,0 +1,5 @@
+pub mod Letters
+pub mod Rows
+pub mod ToAll
+pub mod Later
+pub mod Fitting
