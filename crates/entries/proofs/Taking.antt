@@ -29,7 +29,7 @@ use Rattle.servers.specs.Server.{
 }
 use Rattle.log.specs.Rows.{Row}
 use Rattle.log.proofs.Places.{last-index-row, length-up-to}
-use Rattle.memory.proofs.Tests.{bool-by}
+use Rattle.servers.proofs.Tests.{bool-by}
 use Rattle.memory.proofs.Logs.{long-up-to}
 use Rattle.entries.specs.Steps.{joined, commits-to, extended, extended-if, has-before, accepts, accepted}
 

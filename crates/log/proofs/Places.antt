@@ -15,7 +15,7 @@ use Rattle.servers.specs.Store.{pick}
 use Rattle.servers.specs.Server.{Entry, last-index, last-term, entry-at, term-is, term-of, above, up-to, due, in-a-row}
 use Rattle.log.specs.Rows.{row-in, log-in, Row}
 use Rattle.log.specs.Places.{row-place, row-at, entry-in}
-use Rattle.log.proofs.Tests.{pick-by}
+use Rattle.servers.proofs.Tests.{pick-by}
 
 -- a log that is read from rows is in a row, and as long as it was asked for
 pub log-in-row : (n : ℕ) (ws : List ℕ) → Row (log-in n ws) × (length (log-in n ws) ≡ n)

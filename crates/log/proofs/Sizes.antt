@@ -13,7 +13,7 @@ use Rattle.texts.specs.Words.{text-in, perhaps-in}
 use Rattle.wire.specs.Write.{write-text, write-perhaps, write-command, write-entry}
 use Rattle.log.specs.Rows.{row-in, command-in}
 use Rattle.log.specs.Bytes.{Sound-command, Sound-row, write-expected, write-last, expected-size, last-size}
-use Rattle.log.proofs.Tests.{bool-by, pick-by}
+use Rattle.servers.proofs.Tests.{bool-by, pick-by}
 use Rattle.log.proofs.Written.{length-part}
 use Rattle.wire_write.proofs.Texts.{length-text, length-text-in, length-perhaps}
 use Rattle.log.proofs.Rooms.{length-numbers}

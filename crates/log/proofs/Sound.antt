@@ -48,7 +48,8 @@ sound-row servers clients last e h g =
     let at = g .at in record { server = omega arith; command = sound-command (e .command) (g .command) }
 
 -- the row at the end of a log
-last-row : (es : List Entry) (e : Entry) (more : List ℕ) → take 80 (drop (80 * length es) (log-words es ++ (row-words e ++ more))) ≡ row-words e
+last-row : (es : List Entry) (e : Entry) (more : List ℕ)
+    → take 80 (drop (80 * length es) (log-words es ++ (row-words e ++ more))) ≡ row-words e
 last-row es e more =
     rw (drop-at (log-words es) (row-words e ++ more) (80 * length es) (length-log-words es)) (take-at (row-words e) more 80 (length-row e))
 

@@ -16,7 +16,7 @@ use Rattle.store.specs.Region.{items-of, region-do}
 use Rattle.store.proofs.Regions.{ok-do, items-do}
 use Rattle.memory.specs.Fits.{Entry-fits, Head, Logged, Known, Kept, Mid, Fits}
 use Rattle.memory.specs.Program.{region-all}
-use Rattle.memory.proofs.Tests.{bool-by, pick-by}
+use Rattle.servers.proofs.Tests.{bool-by, pick-by}
 use Rattle.memory.proofs.Each.{all-set, length-set-at, all-due}
 use Rattle.memory.proofs.Logs.{due-few}
 use Rattle.memory.proofs.Stored.{done-good, done-long, reply-good}

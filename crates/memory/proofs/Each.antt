@@ -10,7 +10,7 @@ use Rattle.std.proofs.shelf.Tests.{and-parts, lt-ltb, ltb-true}
 use Rattle.servers.specs.Server.{Entry, many, nth, set-at, up-to, due}
 use Rattle.servers.specs.Promise.{all-below}
 use Rattle.texts.specs.Words.{All, word}
-use Rattle.memory.proofs.Tests.{pick-by}
+use Rattle.servers.proofs.Tests.{pick-by}
 
 abbrev pub Word : ℕ → Type 0
 Word x = x < word

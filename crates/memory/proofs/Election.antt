@@ -26,7 +26,7 @@ use Rattle.servers.specs.Server.{
 use Rattle.memory.specs.Words.{One-below}
 use Rattle.texts.specs.Words.{All}
 use Rattle.memory.specs.Fits.{Head, Logged, Known, Kept, Mid, Fits}
-use Rattle.memory.proofs.Tests.{pick-by}
+use Rattle.servers.proofs.Tests.{pick-by}
 use Rattle.memory.proofs.Each.{all-set, length-set-at, all-many, length-many}
 use Rattle.log.proofs.Places.{last-index-row}
 

@@ -47,7 +47,7 @@ use Rattle.servers.specs.Promise.{fine, all-fine, fine-message, readable}
 use Rattle.texts.specs.Words.{word}
 use Rattle.memory.specs.Fits.{Fits}
 use Rattle.memory.specs.Program.{region-all, done-from, region-after}
-use Rattle.memory.proofs.Tests.{bool-by, pick-by}
+use Rattle.servers.proofs.Tests.{bool-by, pick-by}
 use Rattle.memory.proofs.Good.{good-command, good-entries}
 use Rattle.memory.proofs.Election.{fits-asked, fits-hears-vote, fits-wants, fits-restarted}
 use Rattle.memory.proofs.Replication.{fits-appends, fits-hears-appended, fits-request, fits-settles, fits-sent}

@@ -23,7 +23,7 @@ use Rattle.std.proofs.shelf.Lists.{length-append}
 use Rattle.servers.specs.Store.{pick}
 use Rattle.servers.specs.Server.{Entry, Limits, State, last-index, up-to, entry-at, term-is, in-a-row, settled-to, have-it, due}
 use Rattle.log.specs.Rows.{Row}
-use Rattle.memory.proofs.Tests.{bool-by, pick-by}
+use Rattle.servers.proofs.Tests.{bool-by, pick-by}
 
 -- where there is an entry at i, the log up to i is i long
 pub long-up-to : (i u : ℕ) (es : List Entry) → Row es → term-is (entry-at i es) u ≡ true → length (up-to i es) ≡ i

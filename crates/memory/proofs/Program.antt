@@ -17,7 +17,7 @@ use Rattle.store.proofs.Regions as region
 use Rattle.memory.specs.Layout.{memory-of, limits-in, state-in, region-in}
 use Rattle.memory.specs.Fits.{Head, Logged, Known, Kept, Mid, Fits}
 use Rattle.memory.specs.Program.{region-after, called, says, program}
-use Rattle.memory.proofs.Tests.{pick-false}
+use Rattle.servers.proofs.Tests.{pick-false}
 use Rattle.memory.proofs.Each.{all-many, length-many, below-all}
 use Rattle.memory.proofs.Back.{state-back, limits-back, region-back}
 use Rattle.memory.proofs.Election.{none-known}

@@ -41,7 +41,7 @@ use Rattle.texts.specs.Words.{All, word}
 use Rattle.log.specs.Rows.{Row, Good-command}
 use Rattle.memory.specs.Words.{One-below}
 use Rattle.memory.specs.Fits.{Entry-fits, Head, Logged, Known, Kept, Mid, Fits}
-use Rattle.memory.proofs.Tests.{pick-by}
+use Rattle.servers.proofs.Tests.{pick-by}
 use Rattle.memory.proofs.Each.{all-append, all-set, length-set-at, all-nth, all-up-to}
 use Rattle.log.proofs.Places.{last-index-row, row-up-to}
 use Rattle.log.proofs.Regions.{row-append}

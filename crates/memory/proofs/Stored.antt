@@ -27,7 +27,7 @@ use Rattle.servers.specs.Store.{
 use Rattle.texts.specs.Words.{All, Text, Perhaps-text}
 use Rattle.log.specs.Rows.{Good-command}
 use Rattle.store.specs.Region.{Good-item}
-use Rattle.memory.proofs.Tests.{pick-by}
+use Rattle.servers.proofs.Tests.{pick-by}
 
 -- what holds of either store
 abbrev Goods : Store → Type 0

@@ -1,5 +1,5 @@
--- AGREEMENT: what this proof takes from the safety of the logs, and all that it takes. Logs are contiguous; no commit index falls; and what
--- was ever committed at one server is what was ever committed at any. No other file here reads the invariant of safety.
+-- AGREEMENT: what this proof takes from the safety of the logs, and all that it takes. Logs are contiguous; no commit index falls; what
+-- was ever committed at one server is what was ever committed at any, and stays. No other file here reads the invariant of safety.
 use mathlib.Core.Path.{_≡_, refl, sym}
 use mathlib.Core.List.{List, []}
 use Prim.Native.Nat.{ℕ, _≤_}

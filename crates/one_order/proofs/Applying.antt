@@ -15,7 +15,7 @@ use Rattle.servers.specs.Server.{do-one, do-all, tell-one, tell-all}
 use Rattle.servers.specs.World.{Asked, store-after, reply-in, Said-in}
 use Rattle.std.proofs.shelf.Tests.{and-parts, cases-eq, eq-eqb, ne-eqb, eqb-true}
 use Rattle.std.proofs.shelf.Ways.{tells}
-use Rattle.safety.proofs.Tests.{bool-by}
+use Rattle.servers.proofs.Tests.{bool-by}
 use Rattle.safety.proofs.Tables.{length-many, length-set-at, nth-many}
 use Rattle.one_order.specs.Order.{remembered, session, new-to, asked-of, order}
 use Rattle.one_order.proofs.Lists.{All, nth-set-same, nth-set-other}
@@ -50,8 +50,8 @@ abbrev cached : State → Entry → Cached
 cached s e = nth no-cached (s .cache) (e .client)
 
 -- the machine after an entry whose command is done
-abbrev doing : Machine → Entry → Machine
-doing m e =
+abbrev machine-after : Machine → Entry → Machine
+machine-after m e =
     record { store = done (e .command) (m .store); cache = set-at (m .cache) (e .client) (remembered (asked-of e) (m .store)) }
 
 -- what the client of an entry is told of it
@@ -61,10 +61,10 @@ answer-to s e = pick (is-new s e) (reply (e .command) (s .store)) (cached s e .r
 -- ONE ENTRY
 
 -- A new command is done, and its client's session remembers it.
-did : (n : ℕ) (m : Machine) (os : List Asked) (e : Entry) → Made-by n m os → e .client < n
-    → Made-by n (doing m e) (asked-of e ∷ os)
+new-is-remembered : (n : ℕ) (m : Machine) (os : List Asked) (e : Entry) → Made-by n m os → e .client < n
+    → Made-by n (machine-after m e) (asked-of e ∷ os)
 unfolding store-after session
-did n m os e a low =
+new-is-remembered n m os e a low =
     record {
       clients = length-set-at (m .cache) (e .client) (remembered (asked-of e) (m .store)) ∙ a .clients;
       store = ap (done (e .command)) (a .store);
@@ -72,7 +72,7 @@ did n m os e a low =
     }
   where
     session-of : (c : ℕ) → c < n → (c ≡ e .client) ⊎ (c ≡ e .client → ⊥)
-        → nth no-cached (doing m e .cache) c ≡ pick (eqb c (e .client)) (remembered (asked-of e) (store-after os)) (session os c)
+        → nth no-cached (machine-after m e .cache) c ≡ pick (eqb c (e .client)) (remembered (asked-of e) (store-after os)) (session os c)
     session-of c lo (inl p) =
         let here : e .client < length (m .cache) = rw (a .clients) low in
         let y : eqb (e .client) (e .client) ≡ true = eq-eqb _ _ refl in
@@ -90,9 +90,9 @@ module _ (n : ℕ) (s : State) (e : Entry) (es : List Entry) (a : Made-by n (mac
       subst (λ x. Made-by n (machine (do-one s e)) (pick (new-to x (e .id)) (asked-of e ∷ order es) (order es)))
       (a .sessions (e .client) low)
       (bool-by
-      (λ z. Made-by n (machine (pick z (with-done (doing (machine s) e .store) (doing (machine s) e .cache) s) s))
+      (λ z. Made-by n (machine (pick z (with-done (machine-after (machine s) e .store) (machine-after (machine s) e .cache) s) s))
       (pick z (asked-of e ∷ order es) (order es)))
-      (is-new s e) (λ q. did n (machine s) (order es) e a low) (λ q. a))
+      (is-new s e) (λ q. new-is-remembered n (machine s) (order es) e a low) (λ q. a))
 
   reply-new : reply-in (asked-of e ∷ order es) (e .client) (e .id) ≡ reply (e .command) (s .store) ∷ []
   unfolding reply-in

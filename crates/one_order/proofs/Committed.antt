@@ -10,7 +10,7 @@ use Rattle.servers.specs.Server.{State, up-to, above}
 use Rattle.servers.specs.World.{Program, Group, World}
 use Rattle.servers.specs.Promise.{at-server}
 use Rattle.std.proofs.shelf.Tests.{cases-eq, ltb-true, ltb-false}
-use Rattle.safety.proofs.Tests.{pick-by}
+use Rattle.servers.proofs.Tests.{pick-by}
 use Rattle.safety.proofs.Logs.{contiguous-up-to, up-to-up-to, above-up-to}
 use Rattle.one_order.specs.Order.{order, furthest, committed, linearization, Extends, Later}
 use Rattle.one_order.proofs.Orders.{order-extends}

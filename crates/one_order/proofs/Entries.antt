@@ -13,7 +13,7 @@ use Rattle.servers.specs.Server.{up-to, entry-at, term-is, next-for, back, to-s
 use Rattle.servers.specs.Server.{sends-now, sent-now, after-all, ends-there, is-request, stepped, doing, turned, after, answer}
 use Rattle.servers.specs.World.{Sent, In, from, letters}
 use Rattle.std.proofs.shelf.Tests.{eqb-true}
-use Rattle.safety.proofs.Tests.{pick-by}
+use Rattle.servers.proofs.Tests.{pick-by}
 use Rattle.safety.proofs.Letters.{in-either, from-append, all-one, all-others}
 use Rattle.safety.proofs.Invariant.{View}
 use Rattle.safety.proofs.Unseen.{finished-unseen}

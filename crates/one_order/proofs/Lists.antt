@@ -6,7 +6,7 @@ use native.Mathlib.Omega.{arith}
 use lib.Dec.{ltb, leb}
 use lib.ListN.{length}
 use Rattle.servers.specs.Server.{Entry, nth, set-at, up-to, above}
-use Rattle.safety.proofs.Tests.{pick-by}
+use Rattle.servers.proofs.Tests.{pick-by}
 
 pub nth-set-same : {A : Type 0} (d : A) (xs : List A) (n : ℕ) (a : A) → n < length xs → nth d (set-at xs n a) n ≡ a
 unfolding nth set-at

@@ -7,7 +7,7 @@ use Rattle.servers.specs.Store.{pick}
 use Rattle.servers.specs.Server.{Entry, request}
 use Rattle.servers.specs.World.{Happening, Happened, each-once}
 use Rattle.servers.specs.Promise.{all-asked}
-use Rattle.safety.proofs.Tests.{bool-by, pick-by}
+use Rattle.servers.proofs.Tests.{bool-by, pick-by}
 use Rattle.one_order.specs.Order.{session, new-to, asked-of, order, Extends}
 use Rattle.one_order.proofs.Lists.{All}
 use Rattle.one_order.proofs.Sessions.{Rises, rises-once}

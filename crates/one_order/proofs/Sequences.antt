@@ -11,7 +11,7 @@ use Rattle.servers.specs.Store.{pick, Command, Reply, reply}
 use Rattle.servers.specs.World.{Asked, store-after, reply-in, there, each-once, earlier}
 use Rattle.std.proofs.shelf.Tests.{cases-bool, and-parts, false≢true, both-ways, not-true, or-cases, or-right, eqb-true}
 use Rattle.std.proofs.shelf.Ways.{tells}
-use Rattle.safety.proofs.Tests.{bool-by}
+use Rattle.servers.proofs.Tests.{bool-by}
 use Rattle.one_order.specs.Order.{Extends}
 
 -- whether this is client c's command k

@@ -12,7 +12,7 @@ use Rattle.servers.specs.Server.{Cached}
 use Rattle.servers.specs.World.{Asked, store-after, reply-in, there, each-once}
 use Rattle.std.proofs.shelf.Tests.{cases-bool, and-from, false≢true, both-ways, not-true, not-from-false, or-cases, eqb-true}
 use Rattle.std.proofs.shelf.Ways.{tells}
-use Rattle.safety.proofs.Tests.{bool-by}
+use Rattle.servers.proofs.Tests.{bool-by}
 use Rattle.one_order.specs.Order.{remembered, session, new-to, times}
 use Rattle.one_order.proofs.Sequences.{is, is-same}
 

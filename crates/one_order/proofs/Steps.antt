@@ -12,7 +12,7 @@ use Rattle.servers.specs.Server.{Event, timeout, request, comes, restart, garbl
 use Rattle.servers.specs.Server.{last-index, up-to, entry-at, term-is, has-new, at-least, at-most, nth, next-for, grants, settled-to}
 use Rattle.servers.specs.Server.{with-term, with-voted, with-match, with-next, with-send, with-commit, with-request, with-log}
 use Rattle.servers.specs.Server.{following, advanced, wants, voted-on, after-append, heard, first-step, settles, sent-now}
-use Rattle.safety.proofs.Tests.{pick-by}
+use Rattle.servers.proofs.Tests.{pick-by}
 
 -- what matters here of a server's state
 pub record Core : Type 0 where

@@ -13,7 +13,7 @@ use Rattle.servers.specs.Server.{Entry, Limits, State, nth, have-it, settled-to
 use Rattle.log.specs.Rows.{log-in, row-in}
 use Rattle.log.specs.Places.{entry-in}
 use Rattle.log.proofs.Places.{log-in-more}
-use Rattle.memory.proofs.Tests.{pick-true, pick-false}
+use Rattle.servers.proofs.Tests.{pick-true, pick-false}
 use Rattle.state.proofs.PeerWords.{nth-is}
 
 have-more : (i j : ℕ) (ms : List ℕ) → j < length ms

@@ -10,7 +10,7 @@ use Rattle.servers.specs.Store.{pick}
 use Rattle.servers.specs.Server.{State, appended, nth, at-least, next-for, with-match, with-next, advanced, hears-appended}
 use Rattle.servers.specs.World.{Sent, In}
 use Rattle.std.proofs.shelf.Ways.{tells}
-use Rattle.safety.proofs.Tests.{bool-by, pick-by}
+use Rattle.servers.proofs.Tests.{bool-by, pick-by}
 use Rattle.safety.proofs.Tables.{length-set-at, nth-set-by}
 use Rattle.safety.proofs.Ghost.{Ack, replied}
 use Rattle.safety.proofs.Turn.{Before, Turn, change, advance}

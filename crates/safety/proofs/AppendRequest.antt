@@ -17,7 +17,7 @@ use Rattle.servers.specs.Server.{at-most, following, with-log, with-term, after
 use Rattle.servers.specs.World.{Sent, In, from}
 use Rattle.std.proofs.shelf.Tests.{cases-order}
 use Rattle.std.proofs.shelf.Ways.{tells}
-use Rattle.safety.proofs.Tests.{bool-by, pick-by}
+use Rattle.servers.proofs.Tests.{bool-by, pick-by}
 use Rattle.safety.proofs.Letters.{in-left, in-either, from-by, all-one, old-or-new}
 use Rattle.safety.proofs.Logs.{agree-below, entry-within}
 use Rattle.safety.proofs.Ghost.{Election, Ack, replied, led, Acked, Committed-prefix, Inherits, Own-step}

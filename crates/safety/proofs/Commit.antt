@@ -12,7 +12,7 @@ use Rattle.servers.specs.Server.{Entry, Limits, State, entry-at, nth, have-it, 
 use Rattle.servers.specs.World.{Sent}
 use Rattle.std.proofs.shelf.Tests.{and-parts}
 use Rattle.std.proofs.shelf.Ways.{tells}
-use Rattle.safety.proofs.Tests.{bool-by, pick-by}
+use Rattle.servers.proofs.Tests.{bool-by, pick-by}
 use Rattle.safety.proofs.Logs.{Contiguous, entry-last, entry-deeper, entry-within}
 use Rattle.safety.proofs.Quorums.{Most, quorum-of-matches}
 use Rattle.safety.proofs.Ghost.{Acked, Committed-prefix}

@@ -14,7 +14,7 @@ use Rattle.servers.specs.Server.{stepped, doing, in-a-row, out-of-row, good-mes
 use Rattle.servers.specs.World.{Sent, In, from, letters}
 use Rattle.std.proofs.shelf.Tests.{and-parts, eqb-true, eqb-false, not-true}
 use Rattle.std.proofs.shelf.Ways.{tells}
-use Rattle.safety.proofs.Tests.{bool-by, pick-by}
+use Rattle.servers.proofs.Tests.{bool-by, pick-by}
 use Rattle.safety.proofs.Letters.{from-append}
 use Rattle.safety.proofs.Induction.{Was-sent}
 use Rattle.safety.proofs.Turn.{Before, Turn, change, change-unseen, say-nothing}

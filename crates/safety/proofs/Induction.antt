@@ -15,7 +15,7 @@ use Rattle.servers.specs.World.{on-timeout, on-request, on-message, on-restart,
 use Rattle.servers.specs.Promise.{readable, all-readable, Good-group, Right, readable-world, at-server}
 use Rattle.std.proofs.shelf.Tests.{and-parts, cases-eq, eq-eqb, ne-eqb, eqb-false}
 use Rattle.safety.specs.Safety.{Until}
-use Rattle.safety.proofs.Tests.{bool-by}
+use Rattle.servers.proofs.Tests.{bool-by}
 
 -- if the event is that a message comes to server i, it was sent to it
 abbrev pub Was-sent : ℕ → List Sent → Event → Type 0

@@ -1,7 +1,6 @@
 -- In the order of the argument.
 
 -- helpers: tests, tables, letters and logs as lists, quorums
-pub mod Tests
 pub mod Tables
 pub mod Letters
 pub mod Logs

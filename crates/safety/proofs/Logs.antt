@@ -12,7 +12,7 @@ use Rattle.servers.specs.Store.{pick}
 use Rattle.servers.specs.Server.{Entry, last-index, last-term, up-to, entry-at, above, term-is, in-a-row}
 use Rattle.std.proofs.shelf.Tests.{and-parts, false≢true, cases-lt}
 use Rattle.std.proofs.shelf.Ways.{tells}
-use Rattle.safety.proofs.Tests.{bool-by}
+use Rattle.servers.proofs.Tests.{bool-by}
 
 -- indices are 1, 2, 3 .. without a gap
 abbrev pub Contiguous : List Entry → Type 0

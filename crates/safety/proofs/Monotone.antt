@@ -17,7 +17,7 @@ use Rattle.servers.specs.Promise.{at-server, readable-world}
 use Rattle.std.proofs.shelf.Tests.{and-parts}
 use Rattle.std.proofs.shelf.Ways.{tells}
 use Rattle.safety.specs.Safety.{Until, at-moment}
-use Rattle.safety.proofs.Tests.{bool-by, pick-by}
+use Rattle.servers.proofs.Tests.{bool-by, pick-by}
 use Rattle.safety.proofs.Invariant.{View, view}
 use Rattle.safety.proofs.Unseen.{finished-unseen, sent-unseen}
 use Rattle.safety.proofs.Induction.{Step, worlds-by, each-server}

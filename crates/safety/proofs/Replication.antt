@@ -13,7 +13,7 @@ use Rattle.servers.specs.Server.{sends-now}
 use Rattle.servers.specs.World.{Sent, from}
 use Rattle.std.proofs.shelf.Tests.{and-parts}
 use Rattle.std.proofs.shelf.Ways.{tells}
-use Rattle.safety.proofs.Tests.{bool-by}
+use Rattle.servers.proofs.Tests.{bool-by}
 use Rattle.safety.proofs.Letters.{all-none, all-others}
 use Rattle.safety.proofs.Logs.{Contiguous, up-to-all, up-to-up-to, up-to-its-end, contiguous-up-to, last-up-to-below, last-up-to-within}
 use Rattle.safety.proofs.Logs.{entry-exists, above-up-to, above-length, above-some}

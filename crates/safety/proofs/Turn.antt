@@ -11,7 +11,7 @@ use lib.Dec.{ltb}
 use Rattle.servers.specs.Server.{State, Letter, Message, ask-vote, vote, append, appended, with-term, advanced}
 use Rattle.servers.specs.World.{Sent, In, from}
 use Rattle.std.proofs.shelf.Ways.{tells}
-use Rattle.safety.proofs.Tests.{pick-by}
+use Rattle.servers.proofs.Tests.{pick-by}
 use Rattle.safety.proofs.Letters.{in-left, in-either, from-by, old-or-new}
 use Rattle.safety.proofs.Ghost.{Maybe, just, Ballot, Ghost, Ack, replied, led, Acked, Extends, Own-step}
 use Rattle.safety.proofs.Invariant.{Ghost-invariant, Server-invariant, Letter-invariant, view, horizon}

@@ -3,7 +3,7 @@ use mathlib.Core.Path.{_≡_, refl, _∙_}
 use mathlib.Core.List.{List, [], _∷_}
 use lib.Dec.{eqb}
 use Rattle.servers.specs.Server.{Entry, State, is-new, do-one, do-all, dues, finished, sent-now}
-use Rattle.safety.proofs.Tests.{pick-by}
+use Rattle.servers.proofs.Tests.{pick-by}
 use Rattle.safety.proofs.Invariant.{view}
 
 one-unseen : (s : State) (e : Entry) → view (do-one s e) ≡ view s

@@ -13,7 +13,7 @@ use Rattle.servers.specs.Store.{pick}
 use Rattle.servers.specs.Server.{Limits, State, vote, last-index, many, nth, set-at, count, won, advanced, voted-on, hears-vote}
 use Rattle.servers.specs.World.{Sent}
 use Rattle.std.proofs.shelf.Ways.{tells}
-use Rattle.safety.proofs.Tests.{bool-by, pick-by}
+use Rattle.servers.proofs.Tests.{bool-by, pick-by}
 use Rattle.safety.proofs.Tables.{length-many, length-set-at, nth-set-by, nth-many-by}
 use Rattle.safety.proofs.Logs.{up-to-all, agree-at-zero}
 use Rattle.safety.proofs.Quorums.{Most, Quorum, quorums-meet, quorum-of-votes}

@@ -14,7 +14,7 @@ use Rattle.servers.specs.Server.{with-term, advanced, asked, back}
 use Rattle.servers.specs.World.{Sent, from}
 use Rattle.std.proofs.shelf.Tests.{cases-lt, and-parts}
 use Rattle.std.proofs.shelf.Ways.{tells}
-use Rattle.safety.proofs.Tests.{bool-by}
+use Rattle.servers.proofs.Tests.{bool-by}
 use Rattle.safety.proofs.Letters.{all-one}
 use Rattle.safety.proofs.Ghost.{Maybe, nothing, just, Ballot, Ghost, Up-to-date}
 use Rattle.safety.proofs.Invariant.{Valid-log, Valid-ballot, Server-invariant, Letter-invariant, View, view, horizon}

@@ -10,7 +10,7 @@ use Rattle.servers.specs.Store.{pick}
 use Rattle.servers.specs.Server.{State, Letter}
 use Rattle.servers.specs.World.{Sent, In, from}
 use Rattle.std.proofs.shelf.Ways.{tells}
-use Rattle.safety.proofs.Tests.{bool-by}
+use Rattle.servers.proofs.Tests.{bool-by}
 use Rattle.safety.proofs.Letters.{old-or-new}
 use Rattle.safety.proofs.Ghost.{Maybe, nothing, just, Ballot, Ghost, Own-step}
 use Rattle.safety.proofs.Invariant.{Valid-ballot, Server-invariant, Letter-invariant, view}

@@ -26,7 +26,7 @@ use Rattle.servers.specs.Server.{
   to-server,
   first-letters,
 }
-use Rattle.log.proofs.Tests.{pick-by}
+use Rattle.servers.proofs.Tests.{pick-by}
 use Rattle.sending.specs.Letters.{asks}
 
 -- what doing a command leaves as it is, doing all leaves

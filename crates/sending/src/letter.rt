@@ -68,9 +68,10 @@ pub fn write_ask_letter(mem: &[u64], out: &mut [u8], at: usize, h: usize) -> usi
     requires room { ⌜ at + length (post h (asks (state-of (now mem)))) ≤ length (now out) ⌝ }
     ensures { λ r. ⌜ Writes at (post h (asks (state-of (now (mem .entry))))) (now (out .entry)) (now (out .exit)) r ⌝ }
 {
+    let term = head::term(mem);
     let len = head::last_index(mem);
     let last = last_term(log_part(mem), len as usize);
-    let end = write_ask_vote(out, at + HEAD, head::term(mem), len, last);
+    let end = write_ask_vote(out, at + HEAD, term, len, last);
     seal(out, at, h as u8, end)
 }
 

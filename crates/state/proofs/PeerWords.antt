@@ -29,7 +29,7 @@ use Rattle.log.specs.Rows.{log-region}
 use Rattle.memory.specs.Words.{option-word, option-in, bits-of, cache-words}
 use Rattle.memory.specs.Layout.{rest-of, memory-of, servers-in, me-in, room-in, region-in, log-part}
 use Rattle.memory.specs.Fits.{Head, Logged, Known, Kept}
-use Rattle.memory.proofs.Tests.{bool-by}
+use Rattle.servers.proofs.Tests.{bool-by}
 use Rattle.memory.proofs.Each.{length-set-at}
 use Rattle.memory.proofs.Election.{none-known, known-match, known-votes}
 use Rattle.memory.proofs.Replication.{known-next, next-fits, match-fits}

@@ -9,9 +9,10 @@ use Rattle.servers.specs.Store.{pick, same-text, same-perhaps, Perhaps, Command
 use Rattle.texts.specs.Words.{Text, Perhaps-text, text-words, text-in, perhaps-words, perhaps-in}
 use Rattle.texts.proofs.Cells.{length-perhaps-words}
 use Rattle.texts.proofs.Order.{perhaps-same}
-use Rattle.store.specs.Region.{blank, count, capacity, items-of, place, found, replaced-at, inserted-at, removed-at, region-put, region-remove, region-do, Region-ok}
+use Rattle.store.specs.Region.{blank, count, capacity, items-of, place, found, replaced-at, inserted-at, removed-at, region-put}
+use Rattle.store.specs.Region.{region-remove, region-do, Region-ok}
 use Rattle.store.specs.Calls.{Held, Of-text, Of-perhaps, Spot-of, Does, text-there}
-use Rattle.store.proofs.Order.{bool-by, pick-by, pick-true, pick-false}
+use Rattle.servers.proofs.Tests.{bool-by, pick-by, pick-true, pick-false}
 use Rattle.store.proofs.Stores.{look-place, place-within, found-within}
 use Rattle.store.proofs.Regions.{items-count, holds-put, holds-remove}
 use Rattle.store.proofs.Reading.{Nth, nth-good}
@@ -65,7 +66,8 @@ removed-do k r p b q =
     ap (λ (t : Bool). pick t (removed-at p r) r) (q .there) ∙ ap (λ (j : ℕ). pick (found k (items-of r)) (removed-at j r) r) (q .at)
 
 -- texts or none compared by their words
-pub tests-same : (p q : Perhaps) (ws vs : List ℕ) → ws ≡ perhaps-words 32 p → vs ≡ perhaps-words 32 q → Perhaps-text 256 p → Perhaps-text 256 q
+pub tests-same : (p q : Perhaps) (ws vs : List ℕ) → ws ≡ perhaps-words 32 p → vs ≡ perhaps-words 32 q → Perhaps-text 256 p
+    → Perhaps-text 256 q
     → same-text ws vs ≡ same-perhaps p q
 tests-same p q ws vs e f g h =
     ap (λ (x : List ℕ). same-text x vs) e ∙ (ap (λ (y : List ℕ). same-text (perhaps-words 32 p) y) f ∙ sym (perhaps-same 32 p q g h))

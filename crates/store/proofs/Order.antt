@@ -8,22 +8,8 @@ use native.Mathlib.Omega.{arith}
 use Rattle.std.proofs.shelf.Ways.{tells}
 use Rattle.std.proofs.shelf.Tests.{both-ways, cases-bool}
 use Rattle.servers.specs.Store.{pick, same-text, less-text}
+use Rattle.servers.proofs.Tests.{bool-by}
 use Rattle.texts.proofs.Order.{same-tells, same-self, both-tell}
-
--- by a test, with the goal at each outcome
-pub bool-by : (P : Bool → Type 0) (b : Bool) → (b ≡ true → P true) → (b ≡ false → P false) → P b
-bool-by P true f g = f refl
-bool-by P false f g = g refl
-
-pub pick-by : {A : Type 0} (P : A → Type 0) (b : Bool) (x y : A) → (b ≡ true → P x) → (b ≡ false → P y) → P (pick b x y)
-pick-by P true x y f g = f refl
-pick-by P false x y f g = g refl
-
-pub pick-true : {A : Type 0} (b : Bool) (x y : A) → b ≡ true → pick b x y ≡ x
-pick-true b x y e = rw e refl
-
-pub pick-false : {A : Type 0} (b : Bool) (x y : A) → b ≡ false → pick b x y ≡ y
-pick-false b x y e = rw e refl
 
 -- a function of the one or the other
 pub at-pick : {A B : Type 0} (f : A → B) (b : Bool) (x y : A) → f (pick b x y) ≡ pick b (f x) (f y)

@@ -15,7 +15,8 @@ use Rattle.texts.specs.Order.{less-words}
 use Rattle.texts.proofs.Order.{words-order, words-same}
 use Rattle.store.specs.Region.{blank, rows-words, region-of, count, capacity, index-of, rows-of, items-of, place, found, Good-item, Sorted}
 use Rattle.store.specs.Calls.{Held, Of-text}
-use Rattle.store.proofs.Order.{bool-by, less-trans}
+use Rattle.servers.proofs.Tests.{bool-by}
+use Rattle.store.proofs.Order.{less-trans}
 use Rattle.store.proofs.Stores.{place-is, sorted-at, found-at}
 use Rattle.store.proofs.Rows.{name-at, text-at, good-at}
 use Rattle.store.proofs.Regions.{rows-part, items-count, item-at, row-below, long}

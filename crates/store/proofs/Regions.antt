@@ -5,16 +5,24 @@ use mathlib.Core.List.{List, [], _∷_, _++_, map}
 use Prim.Native.Nat.{ℕ, zero, suc, _+_, _*_, _-_, _<_, _≤_}
 use lib.ListN.{length, getD, set, take, drop, replicate}
 use native.Mathlib.Omega.{arith}
-use Rattle.std.proofs.shelf.Lists.{append-assoc, map-append, length-append, length-take-le, length-drop, length-map, length-set, length-replicate, take-at, drop-at, take-all, drop-drop, take-map, drop-map, set-at, getD-at, take-append-drop}
-use Rattle.servers.specs.Store.{pick, same-perhaps, Perhaps, Command, get, put, remove, swap, drop-if, Item, Store, look, with-item, without-item, done}
+use Rattle.std.proofs.shelf.Lists.{append-assoc, map-append, length-append, length-take-le, length-drop, length-map, length-set}
+use Rattle.std.proofs.shelf.Lists.{length-replicate, take-at, drop-at, take-all, drop-drop, take-map, drop-map, set-at, getD-at}
+use Rattle.std.proofs.shelf.Lists.{take-append-drop}
+use Rattle.servers.specs.Store.{pick, same-perhaps, Perhaps, Command, get, put, remove, swap, drop-if, Item, Store, look, with-item}
+use Rattle.servers.specs.Store.{without-item, done}
 use Rattle.texts.specs.Words.{All, Text, word}
 use Rattle.texts.specs.Commands.{Good-command}
-use Rattle.store.specs.Region.{blank, item, rows-words, rows-in, region-of, count, capacity, index-of, rows-of, items-at, items-of, region-size, numbers, empty-region, place, found, opened, closed, replaced-at, inserted-at, removed-at, region-put, region-remove, region-do, Good-item, Apart, Sorted, Parts-ok, Region-ok}
+use Rattle.store.specs.Region.{blank, item, rows-words, rows-in, region-of, count, capacity, index-of, rows-of, items-at, items-of}
+use Rattle.store.specs.Region.{region-size, numbers, empty-region, place, found, opened, closed, replaced-at, inserted-at, removed-at}
+use Rattle.store.specs.Region.{region-put, region-remove, region-do, Good-item, Apart, Sorted, Parts-ok, Region-ok}
 use Rattle.store.specs.Laws.{Region-laws}
-use Rattle.store.proofs.Order.{bool-by, pick-by, pick-true, pick-false, at-pick}
+use Rattle.servers.proofs.Tests.{bool-by, pick-by, pick-true, pick-false}
+use Rattle.store.proofs.Order.{at-pick}
 use Rattle.store.proofs.Stores.{with-place, without-place, place-within, found-within, sorted-with, sorted-without}
 use Rattle.store.proofs.Rows.{all-append, length-rows-words, rows-back, rows-fit, good-blanks, good-set}
-use Rattle.store.proofs.RowNumbers.{all-left, all-at, split-used, take-used, take-split, take-opened, take-closed, length-opened, length-closed, all-opened, all-closed, apart-opened, apart-closed, apart-left, apart-around, items-around, split-free, length-numbers, numbers-below, numbers-apart}
+use Rattle.store.proofs.RowNumbers.{all-left, all-at, split-used, take-used, take-split, take-opened, take-closed, length-opened}
+use Rattle.store.proofs.RowNumbers.{length-closed, all-opened, all-closed, apart-opened, apart-closed, apart-left, apart-around}
+use Rattle.store.proofs.RowNumbers.{items-around, split-free, length-numbers, numbers-below, numbers-apart}
 
 -- a region from its parts is read back
 pub index-back : (n c : ℕ) (is : List ℕ) (xs : List Item) → length is ≡ n → index-of (region-of c n is xs) ≡ is
@@ -148,7 +156,8 @@ holds-replaced n r k v o g h t =
     let w = found-within k s t .0 in
     let m = items-count n r o in
     let e : with-item k v s ≡ set s (place k s) (item k v) = with-place k v s ∙ pick-true (found k s) _ _ t in
-    subst (λ (j : ℕ). Holds n (region-of (count r) j (index-of r) (set (rows-of r) (getD (index-of r) (place k s) 0) (item k v))) (with-item k v s))
+    subst (λ (j : ℕ). Holds n (region-of (count r) j (index-of r) (set (rows-of r) (getD (index-of r) (place k s) 0) (item k v)))
+    (with-item k v s))
     (sym (o .room))
     (holds n (count r) (index-of r) (set (rows-of r) (getD (index-of r) (place k s) 0) (item k v)) (with-item k v s)
     (q .few) (q .index) (q .below) (q .apart) (length-set (rows-of r) (getD (index-of r) (place k s) 0) (item k v) ∙ q .rows)

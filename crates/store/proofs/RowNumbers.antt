@@ -5,7 +5,9 @@ use mathlib.Core.List.{List, [], _∷_, _++_, map}
 use Prim.Native.Nat.{ℕ, zero, suc, _+_, _*_, _-_, _<_, _≤_}
 use lib.ListN.{length, getD, set, take, drop}
 use native.Mathlib.Omega.{arith}
-use Rattle.std.proofs.shelf.Lists.{append-assoc, append-nil, map-append, length-append, length-take-le, length-drop, length-map, take-at, drop-at, take-all, drop-drop, drop-more, drop-take, take-append-drop, take-take, set-at, getD-set-same, getD-set-other}
+use Rattle.std.proofs.shelf.Lists.{append-assoc, append-nil, map-append, length-append, length-take-le, length-drop, length-map, take-at}
+use Rattle.std.proofs.shelf.Lists.{drop-at, take-all, drop-drop, drop-more, drop-take, take-append-drop, take-take, set-at, getD-set-same}
+use Rattle.std.proofs.shelf.Lists.{getD-set-other}
 use Rattle.servers.specs.Store.{Item, Store}
 use Rattle.texts.specs.Words.{All}
 use Rattle.store.specs.Region.{blank, items-at, opened, closed, Apart, numbers}
@@ -128,23 +130,20 @@ take-closed p c is h k =
     ap (take (c - 1)) (sym (append-assoc (take p is) (take (c - 1 - p) (drop (p + 1) is)) (getD is p 0 ∷ drop c is)))
     ∙ take-at (take p is ++ take (c - 1 - p) (drop (p + 1) is)) (getD is p 0 ∷ drop c is) (c - 1) (omega arith)
 
+length-moved : (a b d : List ℕ) (i : ℕ) → length (a ++ (i ∷ (b ++ d))) ≡ length (a ++ (b ++ (i ∷ d)))
+length-moved a b d i =
+    let u = length-append a (i ∷ (b ++ d)) in
+    let v = length-append b d in
+    let w = length-append a (b ++ (i ∷ d)) in
+    let x = length-append b (i ∷ d) in omega arith
+
 pub length-opened : (p c : ℕ) (is : List ℕ) → p ≤ c → c < length is → length (opened p c is) ≡ length is
 length-opened p c is h k =
-    moved (take p is) (take (c - p) (drop p is)) (drop (c + 1) is) (getD is c 0) ∙ ap length (sym (split-free p c is h k))
-  where
-    moved : (a b d : List ℕ) (i : ℕ) → length (a ++ (i ∷ (b ++ d))) ≡ length (a ++ (b ++ (i ∷ d)))
-    moved a b d i =
-        let u = length-append a (i ∷ (b ++ d)) in let v = length-append b d in
-        let w = length-append a (b ++ (i ∷ d)) in let x = length-append b (i ∷ d) in omega arith
+    length-moved (take p is) (take (c - p) (drop p is)) (drop (c + 1) is) (getD is c 0) ∙ ap length (sym (split-free p c is h k))
 
 pub length-closed : (p c : ℕ) (is : List ℕ) → p < c → c ≤ length is → length (closed p c is) ≡ length is
 length-closed p c is h k =
-    moved (take p is) (take (c - 1 - p) (drop (p + 1) is)) (drop c is) (getD is p 0) ∙ ap length (sym (split-used p c is h k))
-  where
-    moved : (a b d : List ℕ) (i : ℕ) → length (a ++ (b ++ (i ∷ d))) ≡ length (a ++ (i ∷ (b ++ d)))
-    moved a b d i =
-        let u = length-append a (i ∷ (b ++ d)) in let v = length-append b d in
-        let w = length-append a (b ++ (i ∷ d)) in let x = length-append b (i ∷ d) in omega arith
+    sym (length-moved (take p is) (take (c - 1 - p) (drop (p + 1) is)) (drop c is) (getD is p 0)) ∙ ap length (sym (split-used p c is h k))
 
 pub all-opened : (P : ℕ → Type 0) (p c : ℕ) (is : List ℕ) → p ≤ c → c < length is → All P is → All P (opened p c is)
 all-opened P p c is h k a =

@@ -4,7 +4,8 @@ use mathlib.Core.List.{List, [], _∷_, _++_}
 use Prim.Native.Nat.{ℕ, zero, suc, _+_, _*_, _-_, _<_, _≤_}
 use lib.ListN.{length, getD, set, take, drop, replicate}
 use native.Mathlib.Omega.{arith}
-use Rattle.std.proofs.shelf.Lists.{append-assoc, length-append, length-take-le, take-at, take-all, drop-at, drop-drop, drop-more, take-append-drop, set-split, replicate-append-replicate}
+use Rattle.std.proofs.shelf.Lists.{append-assoc, length-append, length-take-le, take-at, take-all, drop-at, drop-drop, drop-more}
+use Rattle.std.proofs.shelf.Lists.{take-append-drop, set-split, replicate-append-replicate}
 use Rattle.servers.specs.Store.{Item}
 use Rattle.texts.specs.Words.{All, Text, word, cells, text-words, text-in}
 use Rattle.texts.proofs.Cells.{length-cells, length-text-words, cells-nil, text-back, text-fits}

@@ -4,7 +4,8 @@ use mathlib.Core.List.{List, [], _∷_, _++_}
 use Prim.Native.Nat.{ℕ, zero, suc, _+_, _*_, _-_, _<_, _≤_}
 use lib.ListN.{length, getD, set, take, drop}
 use native.Mathlib.Omega.{arith}
-use Rattle.std.proofs.shelf.Lists.{append-assoc, length-append, length-take-le, length-drop, take-append-drop, take-more, drop-more, getD-append-left, getD-append-right, getD-take, getD-drop, set-at}
+use Rattle.std.proofs.shelf.Lists.{append-assoc, length-append, length-take-le, length-drop, take-append-drop, take-more, drop-more}
+use Rattle.std.proofs.shelf.Lists.{getD-append-left, getD-append-right, getD-take, getD-drop, set-at}
 use Rattle.store.specs.Region.{opened, closed}
 
 -- up to i as it was, and z

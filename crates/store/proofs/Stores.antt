@@ -13,7 +13,9 @@ use Rattle.servers.specs.Store.{pick, same-text, less-text, Perhaps, Item, Stor
 use Rattle.texts.specs.Words.{All}
 use Rattle.texts.proofs.Order.{same-self, same-tells}
 use Rattle.store.specs.Region.{blank, item, place, found, Sorted}
-use Rattle.store.proofs.Order.{bool-by, pick-by, pick-true, pick-false, at-pick, less-trans, less-self, less-one-way, less-neither, less-other, same-turned}
+use Rattle.servers.proofs.Tests.{bool-by, pick-by, pick-true, pick-false}
+use Rattle.store.proofs.Order.{at-pick, less-trans, less-self, less-one-way, less-neither}
+use Rattle.store.proofs.Order.{less-other, same-turned}
 
 -- with-item puts the item at the name's place
 pub with-place : (k v : List ℕ) (s : Store)
@@ -135,7 +137,8 @@ sorted-at [] i j h l m = absurd (omega arith)
 sorted-at (x ∷ s) i zero h l m = absurd (omega arith)
 sorted-at (x ∷ s) zero (suc j) h l m = all-at s j (h .0) (omega arith)
   where
-    all-at : (s : Store) (j : ℕ) → All (λ y. less-text (x .key) (y .key) ≡ true) s → j < length s → less-text (x .key) (getD s j blank .key) ≡ true
+    all-at : (s : Store) (j : ℕ) → All (λ y. less-text (x .key) (y .key) ≡ true) s → j < length s → less-text (x .key)
+        (getD s j blank .key) ≡ true
     all-at [] j a l = absurd (omega arith)
     all-at (y ∷ s) zero a l = a .0
     all-at (y ∷ s) (suc j) a l = all-at s j (a .1) (omega arith)

@@ -11,7 +11,8 @@ use Rattle.servers.specs.Store.{pick, Item}
 use Rattle.texts.specs.Words.{All, Byte, Text, text-words, text-in, perhaps-words}
 use Rattle.texts.proofs.Cells.{length-text-words, text-back}
 use Rattle.texts.proofs.Parts.{take-past}
-use Rattle.store.specs.Region.{blank, item, item-words, rows-words, region-of, count, capacity, index-of, rows-of, opened, closed, replaced-at, inserted-at, removed-at, numbers, empty-region}
+use Rattle.store.specs.Region.{blank, item, item-words, rows-words, region-of, count, capacity, index-of, rows-of, opened, closed}
+use Rattle.store.specs.Region.{replaced-at, inserted-at, removed-at, numbers, empty-region}
 use Rattle.store.specs.Calls.{Held, Of-text}
 use Rattle.store.proofs.Rows.{row-put, text-put, rows-blank}
 use Rattle.store.proofs.Reading.{Nth, Row-place, nth-is, index-below, held-few}
@@ -27,7 +28,8 @@ length-of-text n ws o = ap length (o .is) ∙ length-text-words n (text-in ws)
 
 -- how long `&s[a..a + k]` is
 pub part-long : (xs : List ℕ) (a k m : ℕ) → m ≡ k → a + k ≤ length xs → length (take m (drop a xs)) ≡ k
-part-long xs a k m e h = let d = length-drop a xs in ap (λ (j : ℕ). length (take j (drop a xs))) e ∙ length-take-le k (drop a xs) (omega arith)
+part-long xs a k m e h = let d = length-drop a xs in ap (λ (j : ℕ). length (take j (drop a xs))) e ∙ length-take-le k (drop a xs)
+    (omega arith)
 
 -- words put behind the index, from a to b
 put-tail : (c n a b : ℕ) (is rs us : List ℕ) → length is ≡ n
@@ -90,7 +92,8 @@ pub insert-is : (r name text ws js : List ℕ) (p at k m : ℕ) → Held r → c
 insert-is r name text ws js p at k m o h n t e f g w j =
     let x : Item = item (text-in name) (text-in text) in
     let ys : List Item = set (rows-of r) (getD (index-of r) (count r) 0) x in
-    let u : ws ≡ item-words x = w ∙ (ap (λ (a : List ℕ). a ++ text) (n .is) ∙ ap (λ (b : List ℕ). text-words 8 (text-in name) ++ b) (t .is)) in
+    let u : ws ≡ item-words x = w ∙ (ap (λ (a : List ℕ). a ++ text) (n .is) ∙ ap (λ (b : List ℕ). text-words 8 (text-in name) ++ b)
+    (t .is)) in
     let a = row-written r ws (count r) at k x o h e f u in
     let i : take m (drop 2 (putMid at k r ws)) ≡ index-of r =
     ap (λ (q : List ℕ). take m (drop 2 q)) a ∙ take-at (index-of r) (rows-words ys) m (o .parts .index ∙ sym g) in

@@ -15,7 +15,8 @@ use mathlib.Core.Path.{_≡_}
 use Prim.Native.Nat.{ℕ, zero, suc, _+_, _*_, _-_, _≤_, _<_}
 use lib.Dec.{eqb}
 use lib.ListN.{length, getD, set, take, drop, replicate}
-use Rattle.servers.specs.Store.{pick, same-text, less-text, same-perhaps, Perhaps, Command, get, put, remove, swap, drop-if, Item, Store, look}
+use Rattle.servers.specs.Store.{pick, same-text, less-text, same-perhaps, Perhaps, Command, get, put, remove, swap, drop-if, Item, Store}
+use Rattle.servers.specs.Store.{look}
 use Rattle.texts.specs.Words.{All, Text, Perhaps-text, text-words, text-in, perhaps-words, perhaps-in}
 
 abbrev pub blank : Item

@@ -2,12 +2,13 @@
 ghost use mathlib.Core.Path.{_≡_};
 ghost use Prim.Native.Nat.{ℕ, _<_, _≤_};
 ghost use lib.ListN.{length};
-ghost use Rattle.servers.specs.Store.{get, put, remove, swap, drop-if};
+ghost use Rattle.servers.specs.Store.{get, put, remove, swap, drop-if, look};
 ghost use Rattle.texts.specs.Words.{All, text-in, perhaps-in};
 ghost use Rattle.texts.specs.Means.{perhaps-of};
 ghost use Rattle.store.specs.Region.{capacity, items-of};
-ghost use Rattle.store.specs.Calls.{Of-text, Of-perhaps, Ready, Does};
+ghost use Rattle.store.specs.Calls.{Held, Of-text, Of-perhaps, Ready, Does, text-of-words};
 use crate::commands;
+use crate::find;
 use crate::reply::tell_none;
 use crate::reply::tell_text;
 
@@ -44,6 +45,15 @@ fn perhaps_words(text: Option<&[u8]>) -> [u64; 33]
     words
 }
 
+// The text of a name, in words, if there is one.
+pub fn look_up<'a>(region: &'a [u64], name: &[u8]) -> Option<&'a [u64]>
+    requires held { ⌜ Held (now region) ⌝ }
+    requires name { ⌜ length (now name) ≤ 64 ⌝ }
+    ensures { λ r. ⌜ text-of-words r ≡ look (now (name .entry)) (items-of (now (region .entry))) ⌝ }
+{
+    find::look_up(region, &name_words(name))
+}
+
 pub fn do_get(region: &[u64], name: &[u8], after: &mut [u64], before: &mut [u64])
     requires ready { ⌜ Ready (now region) (now after) (now before) ⌝ }
     requires name { ⌜ length (now name) ≤ 64 ⌝ }
@@ -57,7 +67,8 @@ pub fn do_put(region: &mut [u64], name: &[u8], text: &[u8], after: &mut [u64], b
     requires room { ⌜ length (items-of (now region)) < capacity (now region) ⌝ }
     requires name { ⌜ length (now name) ≤ 64 ⌝ }
     requires text { ⌜ length (now text) ≤ 256 ⌝ }
-    ensures { λ _. ⌜ Does (put (now (name .entry)) (now (text .entry))) (now (region .entry)) (now (region .exit)) (now (after .exit)) (now (before .exit)) ⌝ }
+    ensures { λ _. ⌜ Does (put (now (name .entry)) (now (text .entry))) (now (region .entry)) (now (region .exit)) (now (after .exit))
+        (now (before .exit)) ⌝ }
 {
     commands::do_put(region, &name_words(name), &text_words(text), after, before);
 }
@@ -65,7 +76,8 @@ pub fn do_put(region: &mut [u64], name: &[u8], text: &[u8], after: &mut [u64], b
 pub fn do_remove(region: &mut [u64], name: &[u8], after: &mut [u64], before: &mut [u64])
     requires ready { ⌜ Ready (now region) (now after) (now before) ⌝ }
     requires name { ⌜ length (now name) ≤ 64 ⌝ }
-    ensures { λ _. ⌜ Does (remove (now (name .entry))) (now (region .entry)) (now (region .exit)) (now (after .exit)) (now (before .exit)) ⌝ }
+    ensures { λ _. ⌜ Does (remove (now (name .entry))) (now (region .entry)) (now (region .exit)) (now (after .exit)) (now
+        (before .exit)) ⌝ }
 {
     commands::do_remove(region, &name_words(name), after, before);
 }
@@ -83,7 +95,8 @@ pub fn do_swap(
     requires name { ⌜ length (now name) ≤ 64 ⌝ }
     requires expected { ⌜ All (λ t. length t ≤ 256) (perhaps-of expected) ⌝ }
     requires text { ⌜ length (now text) ≤ 256 ⌝ }
-    ensures { λ _. ⌜ Does (swap (now (name .entry)) (perhaps-of (expected .entry)) (now (text .entry))) (now (region .entry)) (now (region .exit)) (now (after .exit)) (now (before .exit)) ⌝ }
+    ensures { λ _. ⌜ Does (swap (now (name .entry)) (perhaps-of (expected .entry)) (now (text .entry))) (now (region .entry)) (now
+        (region .exit)) (now (after .exit)) (now (before .exit)) ⌝ }
 {
     commands::do_swap(
         region,
@@ -105,7 +118,8 @@ pub fn do_drop_if(
     requires ready { ⌜ Ready (now region) (now after) (now before) ⌝ }
     requires name { ⌜ length (now name) ≤ 64 ⌝ }
     requires text { ⌜ length (now text) ≤ 256 ⌝ }
-    ensures { λ _. ⌜ Does (drop-if (now (name .entry)) (now (text .entry))) (now (region .entry)) (now (region .exit)) (now (after .exit)) (now (before .exit)) ⌝ }
+    ensures { λ _. ⌜ Does (drop-if (now (name .entry)) (now (text .entry))) (now (region .entry)) (now (region .exit)) (now
+        (after .exit)) (now (before .exit)) ⌝ }
 {
     commands::do_drop_if(region, &name_words(name), &text_words(text), after, before);
 }

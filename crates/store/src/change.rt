@@ -11,20 +11,18 @@ ghost use Rattle.store.specs.Calls.{Held, Of-text, Spot-of};
 use crate::find::Spot;
 use crate::index::close_place;
 use crate::index::open_place;
+use crate::row::INDEX;
+use crate::row::NAME;
+use crate::row::ROW;
 use crate::row::row_at;
-
-const INDEX: usize = 2;
-
-const NAME: usize = 9;
-
-const ROW: usize = 42;
 
 // Another text for the p-th item: its row alone changes.
 pub fn replace(region: &mut [u64], p: usize, text: &[u64])
     requires held { ⌜ Held (now region) ⌝ }
     requires within { ⌜ p < count (now region) ⌝ }
     requires text { ⌜ Of-text 32 (now text) ⌝ }
-    ensures { λ _. ⌜ now (region .exit) ≡ replaced-at p (getD (items-of (now (region .entry))) p blank .key) (text-in (now (text .entry))) (now (region .entry)) ⌝ }
+    ensures { λ _. ⌜ now (region .exit) ≡ replaced-at p (getD (items-of (now (region .entry))) p blank .key) (text-in (now
+        (text .entry))) (now (region .entry)) ⌝ }
 {
     let at = row_at(region, p);
     region[at + NAME..at + ROW].copy_from_slice(text);
@@ -46,7 +44,8 @@ pub fn insert(region: &mut [u64], p: usize, name: &[u64], text: &[u64])
     requires within { ⌜ p ≤ count (now region) ⌝ }
     requires name { ⌜ Of-text 8 (now name) ⌝ }
     requires text { ⌜ Of-text 32 (now text) ⌝ }
-    ensures { λ _. ⌜ now (region .exit) ≡ inserted-at p (text-in (now (name .entry))) (text-in (now (text .entry))) (now (region .entry)) ⌝ }
+    ensures { λ _. ⌜ now (region .exit) ≡ inserted-at p (text-in (now (name .entry))) (text-in (now (text .entry))) (now
+        (region .entry)) ⌝ }
 {
     let c = region[0] as usize;
     let n = region[1] as usize;

@@ -32,7 +32,8 @@ fn find_before(region: &[u64], name: &[u64], before: &mut [u64]) -> Spot
 pub fn do_get(region: &[u64], name: &[u64], after: &mut [u64], before: &mut [u64])
     requires ready { ⌜ Ready (now region) (now after) (now before) ⌝ }
     requires name { ⌜ Of-text 8 (now name) ⌝ }
-    ensures { λ _. ⌜ Does (get (text-in (now (name .entry)))) (now (region .entry)) (now (region .entry)) (now (after .exit)) (now (before .exit)) ⌝ }
+    ensures { λ _. ⌜ Does (get (text-in (now (name .entry)))) (now (region .entry)) (now (region .entry)) (now (after .exit)) (now
+        (before .exit)) ⌝ }
 {
     let spot = find_before(region, name, before);
     after.copy_from_slice(before);
@@ -43,17 +44,19 @@ pub fn do_put(region: &mut [u64], name: &[u64], text: &[u64], after: &mut [u64],
     requires room { ⌜ length (items-of (now region)) < capacity (now region) ⌝ }
     requires name { ⌜ Of-text 8 (now name) ⌝ }
     requires text { ⌜ Of-text 32 (now text) ⌝ }
-    ensures { λ _. ⌜ Does (put (text-in (now (name .entry))) (text-in (now (text .entry)))) (now (region .entry)) (now (region .exit)) (now (after .exit)) (now (before .exit)) ⌝ }
+    ensures { λ _. ⌜ Does (put (text-in (now (name .entry))) (text-in (now (text .entry)))) (now (region .entry)) (now (region .exit))
+        (now (after .exit)) (now (before .exit)) ⌝ }
 {
     let spot = find_before(region, name, before);
     put_item(region, spot, name, text);
-    tell_text(after, text);
+    tell_text(after, text); // whatever there was
 }
 
 pub fn do_remove(region: &mut [u64], name: &[u64], after: &mut [u64], before: &mut [u64])
     requires ready { ⌜ Ready (now region) (now after) (now before) ⌝ }
     requires name { ⌜ Of-text 8 (now name) ⌝ }
-    ensures { λ _. ⌜ Does (remove (text-in (now (name .entry)))) (now (region .entry)) (now (region .exit)) (now (after .exit)) (now (before .exit)) ⌝ }
+    ensures { λ _. ⌜ Does (remove (text-in (now (name .entry)))) (now (region .entry)) (now (region .exit)) (now (after .exit)) (now
+        (before .exit)) ⌝ }
 {
     let spot = find_before(region, name, before);
     remove_item(region, spot);
@@ -74,7 +77,8 @@ pub fn do_swap(
     requires name { ⌜ Of-text 8 (now name) ⌝ }
     requires expected { ⌜ Of-perhaps 32 (now expected) ⌝ }
     requires text { ⌜ Of-text 32 (now text) ⌝ }
-    ensures { λ _. ⌜ Does (swap (text-in (now (name .entry))) (perhaps-in (now (expected .entry))) (text-in (now (text .entry)))) (now (region .entry)) (now (region .exit)) (now (after .exit)) (now (before .exit)) ⌝ }
+    ensures { λ _. ⌜ Does (swap (text-in (now (name .entry))) (perhaps-in (now (expected .entry))) (text-in (now (text .entry)))) (now
+        (region .entry)) (now (region .exit)) (now (after .exit)) (now (before .exit)) ⌝ }
 {
     let spot = find_before(region, name, before);
     if same(before, expected) {
@@ -96,7 +100,8 @@ pub fn do_drop_if(
     requires ready { ⌜ Ready (now region) (now after) (now before) ⌝ }
     requires name { ⌜ Of-text 8 (now name) ⌝ }
     requires text { ⌜ Of-text 32 (now text) ⌝ }
-    ensures { λ _. ⌜ Does (drop-if (text-in (now (name .entry))) (text-in (now (text .entry)))) (now (region .entry)) (now (region .exit)) (now (after .exit)) (now (before .exit)) ⌝ }
+    ensures { λ _. ⌜ Does (drop-if (text-in (now (name .entry))) (text-in (now (text .entry)))) (now (region .entry)) (now
+        (region .exit)) (now (after .exit)) (now (before .exit)) ⌝ }
 {
     let spot = find_before(region, name, before);
     tell_text(after, text);
@@ -113,7 +118,8 @@ pub fn do_command(region: &mut [u64], command: &[u64], after: &mut [u64], before
     requires ready { ⌜ Ready (now region) (now after) (now before) ⌝ }
     requires room { ⌜ length (items-of (now region)) < capacity (now region) ⌝ }
     requires command { ⌜ Of-command (now command) ⌝ }
-    ensures { λ _. ⌜ Does (command-in (now (command .entry))) (now (region .entry)) (now (region .exit)) (now (after .exit)) (now (before .exit)) ⌝ }
+    ensures { λ _. ⌜ Does (command-in (now (command .entry))) (now (region .entry)) (now (region .exit)) (now (after .exit)) (now
+        (before .exit)) ⌝ }
 {
     let name = &command[1..10];
     let expected = &command[10..43];

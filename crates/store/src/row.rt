@@ -6,11 +6,12 @@ ghost use Rattle.texts.specs.Words.{text-words};
 ghost use Rattle.store.specs.Region.{blank, count, capacity, index-of, items-of};
 ghost use Rattle.store.specs.Calls.{Held};
 
-const INDEX: usize = 2;
+// Where the index begins; the words of a name; the words of a row.
+pub const INDEX: usize = 2;
 
-const NAME: usize = 9;
+pub const NAME: usize = 9;
 
-const ROW: usize = 42;
+pub const ROW: usize = 42;
 
 // How many items there are.
 pub fn len(region: &[u64]) -> usize

@@ -9,7 +9,8 @@ use native.Mathlib.Omega.{arith}
 use Rattle.std.proofs.shelf.Lists.{length-append, drop-drop, drop-all}
 use Rattle.std.proofs.shelf.Tests.{ne-eqb}
 use Rattle.servers.specs.Store.{pick, Perhaps}
-use Rattle.texts.specs.Words.{All, Byte, Text, Perhaps-text, word, number-be, bytes-be, cells, unpacked, text-words, text-in, perhaps-words, perhaps-in}
+use Rattle.texts.specs.Words.{All, Byte, Text, Perhaps-text, word, number-be, bytes-be, cells, unpacked, text-words, text-in}
+use Rattle.texts.specs.Words.{perhaps-words, perhaps-in}
 use Rattle.texts.proofs.Bytes.{padded, all-drop, length-bytes-be, number-below, bytes-back, padded-add, padded-back}
 
 pub length-cells : (n : ℕ) (t : List ℕ) → length (cells n t) ≡ n
@@ -90,5 +91,6 @@ perhaps-fits n (t ∷ ts) h l = let k = h .0 .0 in (omega arith, cells-fit n t (
 pub text-words-tell : (n : ℕ) (s t : List ℕ) → Text (8 * n) s → Text (8 * n) t → text-words n s ≡ text-words n t → s ≡ t
 text-words-tell n s t h k e = sym (text-back n s h) ∙ (ap text-in e ∙ text-back n t k)
 
-pub perhaps-words-tell : (n : ℕ) (p q : Perhaps) → Perhaps-text (8 * n) p → Perhaps-text (8 * n) q → perhaps-words n p ≡ perhaps-words n q → p ≡ q
+pub perhaps-words-tell : (n : ℕ) (p q : Perhaps) → Perhaps-text (8 * n) p → Perhaps-text (8 * n) q
+    → perhaps-words n p ≡ perhaps-words n q → p ≡ q
 perhaps-words-tell n p q h k e = sym (perhaps-back n p h) ∙ (ap perhaps-in e ∙ perhaps-back n q k)

@@ -7,7 +7,9 @@ use lib.Dec.{ltb, eqb}
 use lib.ListN.{length, getD, set, take, drop, replicate}
 use native.Mathlib.Omega.{arith}
 use borrow.Rule.Slice.PartMut.{putMid, postOf}
-use Rattle.std.proofs.shelf.Lists.{length-append, length-take-le, append-nil, append-assoc, drop-drop, drop-all, drop-at, take-at, take-all, take-more, drop-more, getD-drop, drop-append-le, take-append-drop, length-drop, take-append-le}
+use Rattle.std.proofs.shelf.Lists.{length-append, length-take-le, append-nil, append-assoc, drop-drop, drop-all, drop-at, take-at}
+use Rattle.std.proofs.shelf.Lists.{take-all, take-more, drop-more, getD-drop, drop-append-le, take-append-drop, length-drop}
+use Rattle.std.proofs.shelf.Lists.{take-append-le}
 use Rattle.std.proofs.shelf.Tests.{eq-eqb, ne-eqb, le-ltb}
 use Rattle.std.proofs.shelf.Ways.{tells}
 use Rattle.servers.specs.Store.{same-text}
@@ -168,7 +170,8 @@ same-step : (a b : List ℕ) (i : ℕ) → i < length a → i < length b
 unfolding same-text
 same-step a b i h k = rw (drop-more a i 0 h, drop-more b i 0 k) refl
 
-pub same-not : (a b : List ℕ) (i : ℕ) → i < length a → i < length b → (getD a i 0 ≡ getD b i 0 → ⊥) → same-text (drop i a) (drop i b) ≡ false
+pub same-not : (a b : List ℕ) (i : ℕ) → i < length a → i < length b → (getD a i 0 ≡ getD b i 0 → ⊥) → same-text (drop i a)
+    (drop i b) ≡ false
 same-not a b i h k d = same-step a b i h k ∙ rw (ne-eqb (getD a i 0) (getD b i 0) d) refl
 
 pub same-next : (a b : List ℕ) (i : ℕ) → i < length a → i < length b → getD a i 0 ≡ getD b i 0

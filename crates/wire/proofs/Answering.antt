@@ -21,7 +21,7 @@ use Rattle.servers.specs.Server.{settles, sends-now, sent-now, is-new, is-again
 use Rattle.servers.specs.Server.{first-letters, ends-there, is-request}
 use Rattle.servers.specs.Server.{good-message, out-of-row, turned, place, doing, answer}
 use Rattle.servers.specs.Promise.{eight, all-fine, fine-message, readable, Good-limits}
-use Rattle.wire.proofs.Tests.{bool-by, pick-by}
+use Rattle.servers.proofs.Tests.{bool-by, pick-by}
 use Rattle.wire.proofs.Numbers.{Byte, Number}
 use Rattle.wire.proofs.Commands.{Good-entries}
 use Rattle.wire.proofs.Events.{Good-message}

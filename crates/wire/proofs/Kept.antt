@@ -16,7 +16,7 @@ use Rattle.std.proofs.shelf.Ways.{tells}
 use Rattle.servers.specs.Store.{pick, reply}
 use Rattle.servers.specs.Server.{Entry, Limits, State, many, nth, set-at, last-index, entry-at, above, up-to, term-is}
 use Rattle.servers.specs.Server.{short, in-a-row, last-of-all, due}
-use Rattle.wire.proofs.Tests.{pick-by}
+use Rattle.servers.proofs.Tests.{pick-by}
 use Rattle.wire.proofs.Commands.{Good-entry}
 use Rattle.wire.proofs.Stored.{Values, Small-reply}
 

@@ -6,7 +6,6 @@ pub mod Writable
 pub mod Trips
 pub mod Places
 pub mod Letters
-pub mod Tests
 pub mod Lengths
 pub mod Stored
 pub mod Kept

@@ -21,7 +21,7 @@ use Rattle.wire.specs.Write.{write-number, write-perhaps, write-message, write
 use Rattle.wire.specs.Write.{write-letters, write-answer}
 use Rattle.wire.specs.Answers.{fine-perhaps, fine-saids, fine-letters, fine-answer}
 use Rattle.wire.specs.Sizes.{letter-size, event-size, answer-size, Event-fits, Answer-fits, Answer-is-fine}
-use Rattle.wire.proofs.Tests.{pick-first}
+use Rattle.servers.proofs.Tests.{pick-first}
 use Rattle.wire.proofs.Writable.{both, fine-all}
 use Rattle.wire.proofs.Lengths.{command-length, short-each, message-size}
 use Rattle.wire.proofs.Stored.{Small}

@@ -19,7 +19,7 @@ use Rattle.servers.specs.Server.{after-append, appends, hears-appended, grants,
 use Rattle.servers.specs.Server.{settled-to, settles, sent-now, is-new, do-one, do-all, dues, finished, after-all, first-step, stepped}
 use Rattle.servers.specs.Server.{event-number, good-message, good-fields, out-of-row, turned-by, turned, after, state}
 use Rattle.servers.specs.Promise.{eight, fine, all-fine, fine-message, readable, all-readable, Good-limits}
-use Rattle.wire.proofs.Tests.{bool-by, pick-by, pick-first}
+use Rattle.servers.proofs.Tests.{bool-by, pick-by, pick-first}
 use Rattle.wire.proofs.Numbers.{Byte, Number}
 use Rattle.wire.proofs.Lengths.{carried}
 use Rattle.wire.proofs.Stored.{leaves, done-values, reply-small, short-command}

@@ -13,7 +13,7 @@ use Rattle.servers.specs.Store.{look, with-item, without-item, done, reply}
 use Rattle.servers.specs.Server.{short, all-short}
 use Rattle.servers.specs.Promise.{bytes, fine}
 use Rattle.wire.specs.Codec.{sized-perhaps, sized-command}
-use Rattle.wire.proofs.Tests.{pick-by}
+use Rattle.servers.proofs.Tests.{pick-by}
 use Rattle.wire.proofs.Commands.{Good-command}
 use Rattle.wire.proofs.Writable.{good-command}
 

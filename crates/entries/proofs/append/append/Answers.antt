@@ -4,7 +4,7 @@ use mathlib.Core.List.{List, [], _∷_}
 use Prim.Native.Nat.{ℕ}
 use Rattle.servers.specs.Server.{Entry, Letter, Message, appended, State, last-index, has-new, appends, append-reply, advanced, following}
 use Rattle.wire_read.specs.Means.{entries-of}
-use Rattle.memory.proofs.Tests.{pick-true}
+use Rattle.servers.proofs.Tests.{pick-true}
 use Rattle.state.specs.Held.{state-of}
 use Rattle.state.proofs.Laws.{next-then, said}
 use Rattle.entries.specs.Steps.{extended-if, accepts, accepted}

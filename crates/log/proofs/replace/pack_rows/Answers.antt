@@ -39,7 +39,7 @@ loop-rest-again c =
       ap (λ (k : ℕ). log-words new ++ drop (80 * k) (putMid at (at + 80 - at) (c .loop-rest .rows) (c .pack-entry .last .row))) less
           ∙ rows-more n at (at + 80 - at) new e (c .loop-rest .rows) (c .pack-entry .last .row)
           (log-words (entries-of bs (c .args .entries)))
-          some (omega arith) place (omega arith) (c .pack-entry .ensures) before,
+          some (omega arith) (omega arith) (omega arith) (c .pack-entry .ensures) before,
     )
 
 pub returns : need.returns

@@ -15,7 +15,7 @@ write-ask-vote-end-requires c κs =
 pub returns : need.returns
 returns c =
     sealed
-    (same-ask (c .args .mem .now) (c .log-part .result .now) (c .last-index-len .result) (c .term .result) (c .last-term-last .result)
-    (c .last-index-len .ensures .word) (c .log-part .ensures .rows) (c .term .ensures .value) (c .last-index-len .ensures .last)
+    (same-ask (c .args .mem .now) (c .log-part .result .now) (c .last-index-len .result) (c .term-term .result) (c .last-term-last .result)
+    (c .last-index-len .ensures .word) (c .log-part .ensures .rows) (c .term-term .ensures .value) (c .last-index-len .ensures .last)
     (c .last-term-last .ensures))
     (c .write-ask-vote-end .ensures .bytes) (c .seal .ensures .head) (c .seal .ensures .same)

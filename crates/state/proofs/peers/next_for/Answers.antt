@@ -5,7 +5,7 @@ use lib.ListN.{getD}
 use borrow.Author.Tests.{eq-eqb, ne-eqb}
 use Rattle.servers.specs.Server.{next-for}
 use Rattle.memory.specs.Layout.{room-in}
-use Rattle.memory.proofs.Tests.{pick-true, pick-false}
+use Rattle.servers.proofs.Tests.{pick-true, pick-false}
 use Rattle.state.specs.Held.{state-of}
 use Rattle.state.proofs.peers.next_for.Needs as need
 use Rattle.state.proofs.Laws.{long}

@@ -9,6 +9,8 @@ do-drop-if-requires c κs = record { ready = c .pre .ready; name = c .name-words
 
 pub returns : need.returns
 returns c =
-    let e : drop-if (text-in (c .name-words .result)) (text-in (c .text-words .result)) ≡ drop-if (c .args .name .now) (c .args .text .now) = cc in
-    subst (λ (x : Command). Does x (c .args .region .now) (c .do-drop-if .last .region) (c .do-drop-if .last .after) (c .do-drop-if .last .before))
+    let e : drop-if (text-in (c .name-words .result)) (text-in (c .text-words .result)) ≡ drop-if (c .args .name .now)
+    (c .args .text .now) = cc in
+    subst (λ (x : Command). Does x (c .args .region .now) (c .do-drop-if .last .region) (c .do-drop-if .last .after)
+    (c .do-drop-if .last .before))
     e (c .do-drop-if .ensures)

@@ -8,5 +8,6 @@ do-remove-requires c κs = record { ready = c .pre .ready; name = c .name-words 
 
 pub returns : need.returns
 returns c =
-    subst (λ (x : Command). Does x (c .args .region .now) (c .do-remove .last .region) (c .do-remove .last .after) (c .do-remove .last .before))
+    subst (λ (x : Command). Does x (c .args .region .now) (c .do-remove .last .region) (c .do-remove .last .after)
+    (c .do-remove .last .before))
     (ap remove (c .name-words .ensures .text)) (c .do-remove .ensures)

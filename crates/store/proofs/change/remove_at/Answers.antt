@@ -15,4 +15,5 @@ part-close-place-end c = let l = held-long (c .args .region .now) (c .pre .held)
 pub returns : need.returns
 returns c =
     let n : ℕ = getD (c .args .region .now) 1 0 in
-    remove-is (c .args .region .now) (c .close-place .last .index) (c .args .p) (2 + n - 2) (c .pre .held) (omega arith) (c .close-place .ensures)
+    remove-is (c .args .region .now) (c .close-place .last .index) (c .args .p) (2 + n - 2) (c .pre .held) (omega arith)
+    (c .close-place .ensures)

@@ -12,7 +12,8 @@ pub remove-item-requires : need.remove-item-requires
 remove-item-requires c κs =
     record {
       held = c .pre .ready .held;
-      within = spot-in (text-in (c .args .name .now)) (c .args .region .now) (c .find-before-spot .result .at) (c .find-before-spot .result .there)
+      within = spot-in (text-in (c .args .name .now)) (c .args .region .now) (c .find-before-spot .result .at)
+          (c .find-before-spot .result .there)
           (c .pre .ready .held) (c .find-before-spot .ensures .spot);
     }
 
@@ -36,5 +37,6 @@ returns-else-same c =
     let r : List ℕ = c .args .region .now in
     let e = tests-same (look k (items-of r)) (v ∷ []) (c .find-before-spot .last .before) (c .tell-text .last .out)
     (c .find-before-spot .ensures .told) (c .tell-text .ensures) (look-good k r (c .pre .ready .held)) (c .pre .text .fits, refl) in
-    not-drop k v r (c .copy-from-slice .last .self) (c .find-before-spot .last .before) (c .pre .ready .held) (c .find-before-spot .ensures .told)
+    not-drop k v r (c .copy-from-slice .last .self) (c .find-before-spot .last .before) (c .pre .ready .held)
+    (c .find-before-spot .ensures .told)
     (sym e ∙ sym (c .if-same .ensures tt)) (c .copy-from-slice .ensures .after)

@@ -9,7 +9,8 @@ pub remove-item-requires : need.remove-item-requires
 remove-item-requires c κs =
     record {
       held = c .pre .ready .held;
-      within = spot-in (text-in (c .args .name .now)) (c .args .region .now) (c .find-before-spot .result .at) (c .find-before-spot .result .there)
+      within = spot-in (text-in (c .args .name .now)) (c .args .region .now) (c .find-before-spot .result .at)
+          (c .find-before-spot .result .there)
           (c .pre .ready .held) (c .find-before-spot .ensures .spot);
     }
 

@@ -26,7 +26,8 @@ pub returns-then-same : need.returns-then-same
 returns-then-same c =
     let k : List ℕ = text-in (c .args .name .now) in
     let r : List ℕ = c .args .region .now in
-    let e = tests-same (look k (items-of r)) (perhaps-in (c .args .expected .now)) (c .find-before-spot .last .before) (c .args .expected .now)
+    let e = tests-same (look k (items-of r)) (perhaps-in (c .args .expected .now)) (c .find-before-spot .last .before)
+    (c .args .expected .now)
     (c .find-before-spot .ensures .told) (c .pre .expected .is) (look-good k r (c .pre .ready .held)) (c .pre .expected .fits) in
     did-swap k (text-in (c .args .text .now)) r (c .put-item .last .region) (c .tell-text .last .out) (c .find-before-spot .last .before)
     (perhaps-in (c .args .expected .now))
@@ -39,7 +40,8 @@ pub returns-else-same : need.returns-else-same
 returns-else-same c =
     let k : List ℕ = text-in (c .args .name .now) in
     let r : List ℕ = c .args .region .now in
-    let e = tests-same (look k (items-of r)) (perhaps-in (c .args .expected .now)) (c .find-before-spot .last .before) (c .args .expected .now)
+    let e = tests-same (look k (items-of r)) (perhaps-in (c .args .expected .now)) (c .find-before-spot .last .before)
+    (c .args .expected .now)
     (c .find-before-spot .ensures .told) (c .pre .expected .is) (look-good k r (c .pre .ready .held)) (c .pre .expected .fits) in
     not-swap k (text-in (c .args .text .now)) r (c .copy-from-slice .last .self) (c .find-before-spot .last .before)
     (perhaps-in (c .args .expected .now)) (c .pre .ready .held) (c .find-before-spot .ensures .told) (sym e ∙ sym (c .if-same .ensures tt))

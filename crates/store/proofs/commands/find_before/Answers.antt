@@ -7,7 +7,8 @@ pub tell-requires : need.tell-requires
 tell-requires c κs =
     record {
       held = c .pre .held;
-      within = spot-in (text-in (c .args .name .now)) (c .args .region .now) (c .find-spot .result .at) (c .find-spot .result .there) (c .pre .held)
+      within = spot-in (text-in (c .args .name .now)) (c .args .region .now) (c .find-spot .result .at) (c .find-spot .result .there)
+          (c .pre .held)
           (c .find-spot .ensures);
       wide = c .pre .wide;
     }
@@ -18,6 +19,7 @@ returns c =
       spot = c .find-spot .ensures;
       told = c .tell .ensures
           ∙ ap (perhaps-words 32)
-          (spot-look (text-in (c .args .name .now)) (c .args .region .now) (c .find-spot .result .at) (c .find-spot .result .there) (c .pre .held)
+          (spot-look (text-in (c .args .name .now)) (c .args .region .now) (c .find-spot .result .at) (c .find-spot .result .there)
+          (c .pre .held)
           (c .find-spot .ensures));
     }

@@ -14,7 +14,8 @@ pub text-at-requires : need.text-at-requires
 text-at-requires c κs =
     record {
       held = c .pre .held;
-      within = spot-in (text-in (c .args .name .now)) (c .args .region .now) (c .find-spot .result .at) (c .find-spot .result .there) (c .pre .held)
+      within = spot-in (text-in (c .args .name .now)) (c .args .region .now) (c .find-spot .result .at) (c .find-spot .result .there)
+          (c .pre .held)
           (c .find-spot .ensures) (c .if-spot .taken);
     }
 
@@ -22,7 +23,8 @@ pub returns-then-spot : need.returns-then-spot
 returns-then-spot c =
     let r : List ℕ = c .args .region .now in
     let p : ℕ = c .find-spot .result .at in
-    let w = spot-in (text-in (c .args .name .now)) r p (c .find-spot .result .there) (c .pre .held) (c .find-spot .ensures) (c .if-spot .taken) in
+    let w = spot-in (text-in (c .args .name .now)) r p (c .find-spot .result .there) (c .pre .held) (c .find-spot .ensures)
+    (c .if-spot .taken) in
     let b : text-in (c .text-at .result .now) ≡ Nth r p .value =
     ap text-in (c .text-at .ensures) ∙ text-back 32 (Nth r p .value) (nth-good r p (c .pre .held) w .1) in
     ap (λ (t : List ℕ). t ∷ []) b

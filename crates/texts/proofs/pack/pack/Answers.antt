@@ -23,7 +23,8 @@ returns c =
     let n : length (us ++ postOf 0 (w - 0) row) ≡ length row = two-long (w - 0) row us (omega arith) (omega arith) in
     let b : vs ≡ cells (length row - w) (drop (8 * w) t) =
     c .pack-rest .ensures
-    ∙ (ap (λ (xs : List ℕ). cells (length (take (length (us ++ postOf 0 (w - 0) row) - w) (drop w (us ++ postOf 0 (w - 0) row)))) xs) (take-rest t (8 * w))
+    ∙ (ap (λ (xs : List ℕ). cells (length (take (length (us ++ postOf 0 (w - 0) row) - w) (drop w (us ++ postOf 0 (w - 0) row)))) xs)
+    (take-rest t (8 * w))
     ∙ ap (λ (k : ℕ). cells k (drop (8 * w) t)) (long-from (us ++ postOf 0 (w - 0) row) w ∙ ap (λ (k : ℕ). k - w) n)) in
     let s : w + (length row - w) ≡ length row = omega arith in
     two-parts w (length (us ++ postOf 0 (w - 0) row) - w) (w - 0) row us vs l (omega arith) (omega arith) (omega arith)

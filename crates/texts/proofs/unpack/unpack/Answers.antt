@@ -36,4 +36,5 @@ returns-else-whole-n c =
     let s : 8 * w ≡ n = omega arith in
     let a = c .unpack-whole .ensures ∙ ap (λ (k : ℕ). unpacked (take k row)) z in
     let d : drop (8 * w - 0) (c .args .out .now) ≡ [] = drop-all (8 * w - 0) (c .args .out .now) (omega arith) in
-    rw (d, append-nil (c .unpack-whole .last .out)) (a ∙ (sym (unpacked-front row w (omega arith)) ∙ ap (λ (k : ℕ). take k (unpacked row)) s))
+    rw (d, append-nil (c .unpack-whole .last .out)) (a ∙ (sym (unpacked-front row w (omega arith)) ∙ ap (λ (k : ℕ). take k
+    (unpacked row)) s))
