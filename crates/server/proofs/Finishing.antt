@@ -30,7 +30,7 @@ use Rattle.servers.specs.Server.{
 }
 use Rattle.wire.specs.Write.{write-number, write-saids, write-letters, write-answer}
 use Rattle.wire_write.proofs.Texts.{length-number}
-use Rattle.log.proofs.Tests.{pick-by}
+use Rattle.servers.proofs.Tests.{pick-by}
 use Rattle.memory.specs.Layout.{region-in}
 use Rattle.memory.specs.Program.{region-all}
 use Rattle.state.specs.Held.{limits-of, state-of, Turns, Becomes}

@@ -6,7 +6,7 @@ ghost use Rattle.servers.specs.Server.{not-leader, after-all};
 ghost use Rattle.state.specs.Held.{Held, limits-of, state-of};
 ghost use Rattle.server.specs.Answered.{Finished, Room, finish-answer};
 ghost use Rattle.server.specs.First.{first-of};
-use crate::apply_stub::apply_all;
+use apply::all::apply_all;
 use crate::first::First;
 use crate::first::write_letters;
 use crate::settle::take_send;
@@ -27,7 +27,7 @@ pub fn finish(mem: &mut [u64], out: &mut [u8], first: First) -> Answer
     settle(mem);
     let send = take_send(mem);
     let told = apply_all(mem, out, TOLD);
-    let sent = write_letters(mem, out, told.end, first, send);
+    let sent = write_letters(mem, out, told.next, first, send);
     write_does_head(out, 0, told.count);
     Answer::Does(told.count, sent.count, sent.end)
 }

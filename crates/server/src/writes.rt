@@ -14,7 +14,7 @@ ghost use Rattle.memory.specs.Program.{region-all};
 ghost use Rattle.checks.specs.Refusals.{by-state};
 ghost use Rattle.state.specs.Held.{Held, Turns, limits-of, state-of};
 ghost use Rattle.server.specs.Answered.{Answered, Begins, Room-for};
-use crate::apply_stub::apply_all;
+use apply::all::apply_all;
 use crate::finish::finish;
 use crate::first::First;
 use crate::refuse::refuse;
