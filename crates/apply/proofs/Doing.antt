@@ -79,7 +79,8 @@ reply-read x st a b g h u v =
     )
 
 -- what holds of the row of each entry holds of each row of a log, whatever stands after it
-last-row : (es : List Entry) (e : Entry) (more : List ℕ) → take 80 (drop (80 * length es) (log-words es ++ (row-words e ++ more))) ≡ row-words e
+last-row : (es : List Entry) (e : Entry) (more : List ℕ)
+    → take 80 (drop (80 * length es) (log-words es ++ (row-words e ++ more))) ≡ row-words e
 last-row es e more =
     rw (drop-at (log-words es) (row-words e ++ more) (80 * length es) (length-log-words es)) (take-at (row-words e) more 80 (length-row e))
 

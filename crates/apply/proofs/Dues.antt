@@ -9,7 +9,8 @@ use mathlib.Core.Logic.{inl, inr}
 use Rattle.std.proofs.shelf.Tests.{cases-lt, lt-ltb, le-ltb}
 use Rattle.std.proofs.shelf.Lists.{append-assoc}
 use Rattle.servers.specs.Store.{pick}
-use Rattle.servers.specs.Server.{Entry, Said, Limits, State, at-least, with-applied, due, is-new, do-one, tell-one, do-all, tell-all, dues, finished}
+use Rattle.servers.specs.Server.{Entry, Said, Limits, State, at-least, with-applied, due, dues, finished}
+use Rattle.servers.specs.Server.{is-new, do-one, tell-one, do-all, tell-all}
 use Rattle.wire.specs.Write.{write-said, write-saids}
 use Rattle.log.specs.Places.{entry-in}
 use Rattle.log.proofs.Places.{log-in-row, due-in, due-none, due-past}
@@ -36,7 +37,8 @@ pub told-applied : (l : Limits) (i : ℕ) (s : State) (es : List Entry) → tell
 unfolding tell-all
 told-applied l i s [] = refl
 told-applied l i s (e ∷ es) =
-    ap (λ (z : List Said). tell-one l s e ++ z) (ap (λ (x : State). tell-all l x es) (one-applied i s e) ∙ told-applied l i (do-one s e) es)
+    ap (λ (z : List Said). tell-one l s e ++ z)
+    (ap (λ (x : State). tell-all l x es) (one-applied i s e) ∙ told-applied l i (do-one s e) es)
 
 pub region-applied : (i : ℕ) (s : State) (es : List Entry) (r : List ℕ) → region-all (with-applied i s) es r ≡ region-all s es r
 unfolding region-all
@@ -46,10 +48,12 @@ region-applied i s (e ∷ es) r =
 
 -- an entry leaves the log and the commit index as they are
 pub one-log : (s : State) (e : Entry) → do-one s e .log ≡ s .log
-one-log s e = bool-by (λ (b : Bool). pick b (did (e .command) (e .client) (e .id) s) s .log ≡ s .log) (is-new s e) (λ q. refl) (λ q. refl)
+one-log s e =
+    bool-by (λ (b : Bool). pick b (did (e .command) (e .client) (e .id) s) s .log ≡ s .log) (is-new s e) (λ q. refl) (λ q. refl)
 
 pub one-commit : (s : State) (e : Entry) → do-one s e .commit ≡ s .commit
-one-commit s e = bool-by (λ (b : Bool). pick b (did (e .command) (e .client) (e .id) s) s .commit ≡ s .commit) (is-new s e) (λ q. refl) (λ q. refl)
+one-commit s e =
+    bool-by (λ (b : Bool). pick b (did (e .command) (e .client) (e .id) s) s .commit ≡ s .commit) (is-new s e) (λ q. refl) (λ q. refl)
 
 -- the next entry is the first that is due
 dues-after : (i : ℕ) (s : State) (e : Entry) → dues (next-one i s e) ≡ due i (s .commit) (s .log)

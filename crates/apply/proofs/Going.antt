@@ -13,21 +13,15 @@ use Rattle.wire_write.proofs.Putting.{writes-as, writes-then, writes-none}
 use Rattle.log.specs.Rows.{log-region}
 use Rattle.log.specs.Places.{entry-in}
 use Rattle.log.proofs.Rooms.{room-first, room-next}
-use Rattle.memory.specs.Layout.{clients-in, room-in, log-part, region-in}
+use Rattle.memory.specs.Layout.{clients-in, room-in, region-in}
 use Rattle.memory.specs.Program.{region-all}
 use Rattle.state.specs.Held.{Held, Turns, Becomes, limits-of, state-of}
 use Rattle.state.proofs.PutBack.{log-held}
+use Rattle.apply.specs.InMemory.{entry-of, told-of, all-told, region-reached}
 use Rattle.apply.specs.Applied.{session, next-one, region-one, kept-for, told-client}
 use Rattle.apply.proofs.Doing.{entry-client}
 use Rattle.apply.proofs.Telling.{told-some, told-few}
 use Rattle.apply.proofs.Dues.{one-applied, one-log, one-commit, dues-more, dues-none, finished-more, told-more, region-more, saids-append}
-
--- the entry at an index, and what this server tells of it
-abbrev pub entry-of : List ℕ → ℕ → Entry
-entry-of m i = entry-in i (log-part m)
-
-abbrev pub told-of : List ℕ → ℕ → List Said
-told-of m i = tell-one (limits-of m) (state-of m) (entry-of m i)
 
 -- the applied index was moved: the entry is the same, and so is what is told of it
 module _ (m m₁ : List ℕ) (i : ℕ) (h : Held m) (b : Becomes m m₁ (with-applied i (state-of m))) where
@@ -44,7 +38,8 @@ module _ (m m₁ : List ℕ) (i : ℕ) (h : Held m) (b : Becomes m m₁ (with-ap
       ∙ (ap (λ (s : State). tell-one (limits-of m) s (entry-of m₁ i)) (b .state)
       ∙ ap (tell-one (limits-of m) (state-of m)) same-entry)
 
-  pub next-turns : (m₂ : List ℕ) → Turns m₁ m₂ (do-one (state-of m₁) (entry-of m₁ i)) (region-one (state-of m₁) (entry-of m₁ i) (region-in m₁))
+  pub next-turns : (m₂ : List ℕ)
+      → Turns m₁ m₂ (do-one (state-of m₁) (entry-of m₁ i)) (region-one (state-of m₁) (entry-of m₁ i) (region-in m₁))
       → Turns m m₂ (next-one i (state-of m) (entry-of m i)) (region-one (state-of m) (entry-of m i) (region-in m))
   next-turns m₂ t =
       record {
@@ -71,14 +66,7 @@ next-told m m₂ i k h some there t e =
     let clients : clients-in m₂ ≡ clients-in m = ap (λ (l : Limits). l .clients) (t .limits) in
     (omega arith, x .1 ∙ ap (λ (s : State). kept-for k (session s k) ∷ []) (sym (t .state)))
 
--- what is left to tell, and the region that is left to reach
-abbrev pub left : List ℕ → List Said
-left m = tell-all (limits-of m) (state-of m) (dues (state-of m))
-
-abbrev pub reached : List ℕ → List ℕ
-reached m = region-all (state-of m) (dues (state-of m)) (region-in m)
-
--- m₀ and o₀ at first; m, o, how far, how many and the place now
+-- m₀ and o₀ at first; m, o, how far, how many and the place now. Of m is told what is left
 pub record Going (m₀ o₀ : List ℕ) (at : ℕ) (m o : List ℕ) (index count next : ℕ) : Type 0 where
   pub held : Held m
   pub limits : limits-of m ≡ limits-of m₀
@@ -86,10 +74,10 @@ pub record Going (m₀ o₀ : List ℕ) (at : ℕ) (m o : List ℕ) (index count
   pub commit : state-of m .commit ≡ state-of m₀ .commit
   pub long : length (state-of m .log) ≡ length (state-of m₀ .log)
   pub ends : finished (state-of m) ≡ finished (state-of m₀)
-  pub region : reached m ≡ reached m₀
-  pub room : next + length (write-saids (left m)) ≤ length o
-  pub bytes : (o′ : List ℕ) (n : ℕ) → Writes next (write-saids (left m)) o o′ n → Writes at (write-saids (left m₀)) o₀ o′ n
-  pub counted : count + length (left m) ≡ length (left m₀)
+  pub region : region-reached m ≡ region-reached m₀
+  pub room : next + length (write-saids (all-told m)) ≤ length o
+  pub bytes : (o′ : List ℕ) (n : ℕ) → Writes next (write-saids (all-told m)) o o′ n → Writes at (write-saids (all-told m₀)) o₀ o′ n
+  pub counted : count + length (all-told m) ≡ length (all-told m₀)
   pub few : count ≤ index
 
 -- one entry
@@ -104,7 +92,7 @@ module _ (m₀ o₀ : List ℕ) (at : ℕ) (m o : List ℕ) (index count next : 
   left-after =
       let s : State = next-one (index + 1) (state-of m) (entry-of m (index + 1)) in tell-all (limits-of m) s (dues s)
 
-  first-left : write-saids (left m) ≡ write-saids (told-of m (index + 1)) ++ write-saids left-after
+  first-left : write-saids (all-told m) ≡ write-saids (told-of m (index + 1)) ++ write-saids left-after
   first-left =
       ap write-saids (told-more (state-of m) (entry-of m (index + 1)) (index + 1) next-due (limits-of m))
       ∙ saids-append (told-of m (index + 1)) left-after
@@ -116,7 +104,8 @@ module _ (m₀ o₀ : List ℕ) (at : ℕ) (m o : List ℕ) (index count next : 
       room-first (write-saids (told-of m (index + 1))) (write-saids left-after) next (length o) (omega arith)
 
   pub going-on : (m′ o′ : List ℕ) (count′ next′ : ℕ)
-      → Turns m m′ (next-one (index + 1) (state-of m) (entry-of m (index + 1))) (region-one (state-of m) (entry-of m (index + 1)) (region-in m))
+      → Turns m m′ (next-one (index + 1) (state-of m) (entry-of m (index + 1)))
+      (region-one (state-of m) (entry-of m (index + 1)) (region-in m))
       → Writes next (write-saids (told-of m (index + 1))) o o′ next′ → count′ ≡ count + length (told-of m (index + 1))
       → Going m₀ o₀ at m′ o′ (index + 1) count′ next′
   going-on m′ o′ count′ next′ t w k =
@@ -129,14 +118,14 @@ module _ (m₀ o₀ : List ℕ) (at : ℕ) (m o : List ℕ) (index count next : 
       let counted = g .counted in
       let room = g .room in
       let one = told-few (limits-of m) s e in
-      let rest : left-after ≡ left m′ =
+      let rest : left-after ≡ all-told m′ =
       sym (ap (λ (l : Limits). tell-all l (state-of m′) (dues (state-of m′))) (t .limits)
       ∙ ap (λ (x : State). tell-all (limits-of m) x (dues x)) (t .state)) in
-      let saids : write-saids (left m) ≡ write-saids (told-of m (index + 1)) ++ write-saids (left m′) =
+      let saids : write-saids (all-told m) ≡ write-saids (told-of m (index + 1)) ++ write-saids (all-told m′) =
       first-left ∙ ap (λ (z : List Said). write-saids (told-of m (index + 1)) ++ write-saids z) rest in
-      let many : length (left m) ≡ length (told-of m (index + 1)) + length (left m′) =
+      let many : length (all-told m) ≡ length (told-of m (index + 1)) + length (all-told m′) =
       ap length (told-more s e (index + 1) next-due (limits-of m) ∙ ap (λ (z : List Said). told-of m (index + 1) ++ z) rest)
-      ∙ length-append (told-of m (index + 1)) (left m′) in
+      ∙ length-append (told-of m (index + 1)) (all-told m′) in
       let long-saids = ap length saids in
       record {
         held = t .held;
@@ -147,7 +136,7 @@ module _ (m₀ o₀ : List ℕ) (at : ℕ) (m o : List ℕ) (index count next : 
         ends = ap finished (t .state) ∙ (sym (finished-more s e (index + 1) next-due (omega arith) (omega arith)) ∙ g .ends);
         region = ap (λ (x : State). region-all x (dues x) (region-in m′)) (t .state)
             ∙ (ap (region-all s′ (dues s′)) (t .region) ∙ (sym (region-more s e (index + 1) next-due (region-in m)) ∙ g .region));
-        room = room-next (write-saids (left m′)) (omega arith) w;
+        room = room-next (write-saids (all-told m′)) (omega arith) w;
         bytes = λ o″ n v. g .bytes o″ n (writes-as (sym saids) (writes-then w v));
         counted = omega arith;
         few = omega arith;
@@ -159,12 +148,12 @@ module _ (m₀ o₀ : List ℕ) (at : ℕ) (m o : List ℕ) (index count next : 
   none-due : dues (state-of m) ≡ []
   none-due = let here = g .here in let commit = g .commit in let long = g .long in dues-none m (omega arith)
 
-  none-left : left m ≡ []
+  none-left : all-told m ≡ []
   unfolding tell-all
   none-left = ap (tell-all (limits-of m) (state-of m)) none-due
 
   pub last-turns : (m′ : List ℕ) → Becomes m m′ (with-applied (at-least (state-of m .applied) (state-of m .commit)) (state-of m))
-      → Turns m₀ m′ (finished (state-of m₀)) (reached m₀)
+      → Turns m₀ m′ (finished (state-of m₀)) (region-reached m₀)
   unfolding do-all region-all
   last-turns m′ b =
       let s : State = state-of m in
@@ -176,11 +165,11 @@ module _ (m₀ o₀ : List ℕ) (at : ℕ) (m o : List ℕ) (index count next : 
         region = b .region ∙ (sym (ap (λ (z : List Entry). region-all s z (region-in m)) none-due) ∙ g .region);
       }
 
-  pub last-bytes : Writes at (write-saids (left m₀)) o₀ o next
+  pub last-bytes : Writes at (write-saids (all-told m₀)) o₀ o next
   unfolding write-saids
   last-bytes =
       let room = g .room in
       g .bytes o next (writes-as (sym (ap write-saids none-left)) (writes-none next o (omega arith)))
 
-  pub last-count : count ≡ length (left m₀)
+  pub last-count : count ≡ length (all-told m₀)
   last-count = let z = ap length none-left in let counted = g .counted in omega arith

@@ -19,6 +19,7 @@ use Rattle.memory.proofs.Logs.{due-few}
 use Rattle.memory.proofs.Stored.{reply-good}
 use Rattle.memory.proofs.Doing.{mid-one}
 use Rattle.state.specs.Held.{Held, limits-of, state-of}
+use Rattle.apply.specs.InMemory.{all-told}
 use Rattle.apply.specs.Applied.{session, region-one}
 use Rattle.apply.proofs.Telling.{tells, one-said}
 use Rattle.apply.proofs.Dues.{saids-append}
@@ -33,9 +34,11 @@ perhaps-small (t ∷ ts) g = let l = length-text t in let h = g .0 .0 in omega a
 
 said-small : (x : Said) → Small (x .reply) → length (write-said x) ≤ 546
 said-small x g =
-    let a = length-append (write-number (x .client)) (write-number (x .id) ++ (write-perhaps (x .reply .now) ++ write-perhaps (x .reply .old))) in
-    let b = length-append (write-number (x .id)) (write-perhaps (x .reply .now) ++ write-perhaps (x .reply .old)) in
-    let c = length-append (write-perhaps (x .reply .now)) (write-perhaps (x .reply .old)) in
+    let now : List ℕ = write-perhaps (x .reply .now) in
+    let old : List ℕ = write-perhaps (x .reply .old) in
+    let a = length-append (write-number (x .client)) (write-number (x .id) ++ (now ++ old)) in
+    let b = length-append (write-number (x .id)) (now ++ old) in
+    let c = length-append now old in
     let d = length-number (x .client) in
     let e = length-number (x .id) in
     let f = perhaps-small (x .reply .now) (g .0) in
@@ -49,7 +52,8 @@ unfolding write-saids
 one-small l n s r e g f =
     let q : Reply = reply (e .command) (s .store) in
     let x : Cached = session s (e .client) in
-    let old : Good-cached x = all-nth Good-cached no-cached (s .cache) (e .client) (f .3 .cache-each) (record { id = omega arith; now = tt; old = tt }) in
+    let old : Good-cached x = all-nth Good-cached no-cached (s .cache) (e .client) (f .3 .cache-each)
+    (record { id = omega arith; now = tt; old = tt }) in
     let small : Small (pick (is-new s e) q (x .reply)) = pick-by Small (is-new s e) q (x .reply)
     (λ t. reply-good (e .command) (s .store) (g .command) (f .3 .items)) (λ t. (old .now, old .old)) in
     let y : Said = record { client = e .client; id = e .id; reply = pick (is-new s e) q (x .reply) } in
@@ -69,8 +73,7 @@ all-small l n s r (e ∷ es) g h f =
     let b = length-append (write-saids (tell-one l s e)) (write-saids (tell-all l (do-one s e) es)) in
     omega arith
 
-pub told-fits : (m : List ℕ) → Held m
-    → length (write-saids (tell-all (limits-of m) (state-of m) (dues (state-of m)))) ≤ 546 * room-in m
+pub told-fits : (m : List ℕ) → Held m → length (write-saids (all-told m)) ≤ 546 * room-in m
 told-fits m h =
     let s : State = state-of m in
     let f = h .fits in

@@ -91,18 +91,21 @@ as-list (Some k) = k ∷ []
 pub told-some : (l : Limits) (s : State) (e : Entry) (k : ℕ) → e .client < length (s .cache) → Some k ≡ told-client (tell-one l s e)
     → (k ≡ e .client) × (tell-one l s e ≡ kept-for k (session (do-one s e) k) ∷ [])
 told-some l s e k h t =
-    bool-by (λ (b : Bool). tells l s e ≡ b → (k ≡ e .client) × (tell-one l s e ≡ kept-for k (session (do-one s e) k) ∷ [])) (tells l s e)
+    bool-by (λ (b : Bool). tells l s e ≡ b → (k ≡ e .client) × (tell-one l s e ≡ kept-for k (session (do-one s e) k) ∷ []))
+    (tells l s e)
     (λ r y.
     let is = said-kept l s e h y in
     let same : k ≡ e .client = ap (λ (o : Option ℕ). getD (as-list o) 0 0) (t ∙ ap told-client is) in
     (same, is ∙ ap (λ (c : ℕ). kept-for c (session (do-one s e) c) ∷ []) (sym same)))
-    (λ r y. let z = ap (λ (o : Option ℕ). length (as-list o)) (t ∙ ap told-client (pick-false (tells l s e) _ [] y)) in absurd (omega arith))
+    (λ r y. let z = ap (λ (o : Option ℕ). length (as-list o)) (t ∙ ap told-client (pick-false (tells l s e) _ [] y)) in
+    absurd (omega arith))
     refl
 
 pub told-none : (l : Limits) (s : State) (e : Entry) → None ≡ told-client (tell-one l s e) → tell-one l s e ≡ []
 told-none l s e t =
     bool-by (λ (b : Bool). tells l s e ≡ b → tell-one l s e ≡ []) (tells l s e)
-    (λ r y. let z = ap (λ (o : Option ℕ). length (as-list o)) (t ∙ ap told-client (pick-true (tells l s e) _ [] y)) in absurd (omega arith))
+    (λ r y. let z = ap (λ (o : Option ℕ). length (as-list o)) (t ∙ ap told-client (pick-true (tells l s e) _ [] y)) in
+    absurd (omega arith))
     (λ r y. pick-false (tells l s e) _ [] y)
     refl
 

@@ -1,3 +1,4 @@
 pub mod Applied
 pub mod Means
+pub mod InMemory
 pub mod Rooms

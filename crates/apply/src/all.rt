@@ -2,14 +2,13 @@
 ghost use mathlib.Core.Path.{_≡_};
 ghost use Prim.Native.Nat.{_+_, _-_, _<_, _≤_, min};
 ghost use lib.ListN.{length};
-ghost use Rattle.servers.specs.Server.{at-least, with-applied, tell-one, tell-all, dues, finished};
+ghost use Rattle.servers.specs.Server.{at-least, with-applied, finished};
 ghost use Rattle.wire.specs.Write.{write-saids};
 ghost use Rattle.wire_write.specs.Put.{Writes};
-ghost use Rattle.log.specs.Places.{entry-in};
-ghost use Rattle.memory.specs.Layout.{log-part, region-in};
-ghost use Rattle.memory.specs.Program.{region-all};
-ghost use Rattle.state.specs.Held.{Held, Turns, Becomes, limits-of, state-of};
+ghost use Rattle.memory.specs.Layout.{region-in};
+ghost use Rattle.state.specs.Held.{Held, Turns, Becomes, state-of};
 ghost use Rattle.apply.specs.Applied.{next-one, region-one};
+ghost use Rattle.apply.specs.InMemory.{entry-of, told-of, all-told, region-reached};
 use crate::one::do_one;
 use crate::tell::tell;
 use state::head;
@@ -37,16 +36,13 @@ fn apply_next(mem: &mut [u64], index: usize, out: &mut [u8], told: Told) -> Told
     requires next { ⌜ index ≡ state-of (now mem) .applied + 1 ⌝ }
     requires there { ⌜ index ≤ length (state-of (now mem) .log) ⌝ }
     requires few { ⌜ told .count ≤ state-of (now mem) .applied ⌝ }
-    requires room { ⌜ told .next + length (write-saids (tell-one (limits-of (now mem)) (state-of (now mem)) (entry-in index (log-part (now mem)))))
-        ≤ length (now out) ⌝ }
+    requires room { ⌜ told .next + length (write-saids (told-of (now mem) index)) ≤ length (now out) ⌝ }
     ensures turns { λ _. ⌜ Turns (now (mem .entry)) (now (mem .exit))
-        (next-one index (state-of (now (mem .entry))) (entry-in index (log-part (now (mem .entry)))))
-        (region-one (state-of (now (mem .entry))) (entry-in index (log-part (now (mem .entry)))) (region-in (now (mem .entry)))) ⌝ }
-    ensures bytes { λ r. ⌜ Writes (told .next)
-        (write-saids (tell-one (limits-of (now (mem .entry))) (state-of (now (mem .entry))) (entry-in index (log-part (now (mem .entry))))))
+        (next-one index (state-of (now (mem .entry))) (entry-of (now (mem .entry)) index))
+        (region-one (state-of (now (mem .entry))) (entry-of (now (mem .entry)) index) (region-in (now (mem .entry)))) ⌝ }
+    ensures bytes { λ r. ⌜ Writes (told .next) (write-saids (told-of (now (mem .entry)) index))
         (now (out .entry)) (now (out .exit)) (r .next) ⌝ }
-    ensures count { λ r. ⌜ r .count ≡ told .count
-        + length (tell-one (limits-of (now (mem .entry))) (state-of (now (mem .entry))) (entry-in index (log-part (now (mem .entry))))) ⌝ }
+    ensures count { λ r. ⌜ r .count ≡ told .count + length (told-of (now (mem .entry)) index) ⌝ }
 {
     head::set_applied(mem, index as u64);
     match do_one(mem, index) {
@@ -68,7 +64,8 @@ fn larger(a: u64, b: u64) -> u64
 fn finish(mem: &mut [u64])
     requires held { ⌜ Held (now mem) ⌝ }
     ensures { λ _. ⌜ Becomes (now (mem .entry)) (now (mem .exit))
-        (with-applied (at-least (state-of (now (mem .entry)) .applied) (state-of (now (mem .entry)) .commit)) (state-of (now (mem .entry)))) ⌝ }
+        (with-applied (at-least (state-of (now (mem .entry)) .applied) (state-of (now (mem .entry)) .commit))
+        (state-of (now (mem .entry)))) ⌝ }
 {
     let done = larger(head::applied(mem), head::commit(mem));
     head::set_applied(mem, done);
@@ -77,13 +74,11 @@ fn finish(mem: &mut [u64])
 // The bytes of what clients are told go to `out` at a place; nothing else of it changes.
 pub fn apply_all(mem: &mut [u64], out: &mut [u8], at: usize) -> Told
     requires held { ⌜ Held (now mem) ⌝ }
-    requires room { ⌜ at + length (write-saids (tell-all (limits-of (now mem)) (state-of (now mem)) (dues (state-of (now mem))))) ≤ length (now out) ⌝ }
-    ensures turns { λ _. ⌜ Turns (now (mem .entry)) (now (mem .exit)) (finished (state-of (now (mem .entry))))
-        (region-all (state-of (now (mem .entry))) (dues (state-of (now (mem .entry)))) (region-in (now (mem .entry)))) ⌝ }
-    ensures bytes { λ r. ⌜ Writes at
-        (write-saids (tell-all (limits-of (now (mem .entry))) (state-of (now (mem .entry))) (dues (state-of (now (mem .entry))))))
-        (now (out .entry)) (now (out .exit)) (r .next) ⌝ }
-    ensures count { λ r. ⌜ r .count ≡ length (tell-all (limits-of (now (mem .entry))) (state-of (now (mem .entry))) (dues (state-of (now (mem .entry))))) ⌝ }
+    requires room { ⌜ at + length (write-saids (all-told (now mem))) ≤ length (now out) ⌝ }
+    ensures turns { λ _. ⌜ Turns (now (mem .entry)) (now (mem .exit))
+        (finished (state-of (now (mem .entry)))) (region-reached (now (mem .entry))) ⌝ }
+    ensures bytes { λ r. ⌜ Writes at (write-saids (all-told (now (mem .entry)))) (now (out .entry)) (now (out .exit)) (r .next) ⌝ }
+    ensures count { λ r. ⌜ r .count ≡ length (all-told (now (mem .entry))) ⌝ }
 {
     let to = due_to(mem);
     let mut index = head::applied(mem) as usize;

@@ -7,15 +7,15 @@ ghost use lib.Dec.{eqb};
 ghost use lib.ListN.{length};
 ghost use Rattle.std.specs.declared.option.Option.the-variants.{Some, None};
 ghost use Rattle.servers.specs.Store.{pick, reply};
-ghost use Rattle.servers.specs.Server.{do-one, tell-one};
+ghost use Rattle.servers.specs.Server.{do-one};
 ghost use Rattle.texts.specs.Commands.{command-in};
 ghost use Rattle.store.specs.Region.{region-do};
 ghost use Rattle.store.specs.Calls.{Of-command, Of-perhaps};
-ghost use Rattle.log.specs.Places.{entry-in};
 ghost use Rattle.log.specs.Numbers.{numbers-of};
-ghost use Rattle.memory.specs.Layout.{clients-in, log-part, region-in};
-ghost use Rattle.state.specs.Held.{Held, Turns, limits-of, state-of};
+ghost use Rattle.memory.specs.Layout.{clients-in, region-in};
+ghost use Rattle.state.specs.Held.{Held, Turns, state-of};
 ghost use Rattle.apply.specs.Applied.{reply-in, with-store-done, did, region-one, told-client};
+ghost use Rattle.apply.specs.InMemory.{entry-of, told-of};
 use crate::session::keep;
 use crate::session::last_done;
 use log::find;
@@ -51,7 +51,7 @@ fn command_at(mem: &[u64], index: usize) -> &[u64]
     requires there { ⌜ index ≤ length (state-of (now mem) .log) ⌝ }
     ensures command { λ r. ⌜ Of-command (now r) ⌝ }
     ensures long { λ r. ⌜ length (now r) ≡ 76 ⌝ }
-    ensures value { λ r. ⌜ command-in (now r) ≡ entry-in index (log-part (now (mem .entry))) .command ⌝ }
+    ensures value { λ r. ⌜ command-in (now r) ≡ entry-of (now (mem .entry)) index .command ⌝ }
 {
     find::command_at(log_part(mem), index)
 }
@@ -64,8 +64,8 @@ fn do_new(mem: &mut [u64], index: usize, client: usize, number: u64)
     requires few { ⌜ length (state-of (now mem) .store) < state-of (now mem) .applied ⌝ }
     requires client { ⌜ client < clients-in (now mem) ⌝ }
     ensures { λ _. ⌜ Turns (now (mem .entry)) (now (mem .exit))
-        (did (entry-in index (log-part (now (mem .entry))) .command) client number (state-of (now (mem .entry))))
-        (region-do (entry-in index (log-part (now (mem .entry))) .command) (region-in (now (mem .entry)))) ⌝ }
+        (did (entry-of (now (mem .entry)) index .command) client number (state-of (now (mem .entry))))
+        (region-do (entry-of (now (mem .entry)) index .command) (region-in (now (mem .entry)))) ⌝ }
 {
     let mut command = [0u64; 76];
     command.copy_from_slice(command_at(mem, index));
@@ -91,7 +91,7 @@ fn numbers_at(mem: &[u64], index: usize) -> Numbers
     requires held { ⌜ Held (now mem) ⌝ }
     requires some { ⌜ 0 < index ⌝ }
     requires there { ⌜ index ≤ length (state-of (now mem) .log) ⌝ }
-    ensures value { λ r. ⌜ r ≡ numbers-of (entry-in index (log-part (now (mem .entry)))) ⌝ }
+    ensures value { λ r. ⌜ r ≡ numbers-of (entry-of (now (mem .entry)) index) ⌝ }
     ensures client { λ r. ⌜ r .client < clients-in (now (mem .entry)) ⌝ }
 {
     find::numbers_at(log_part(mem), index)
@@ -104,10 +104,9 @@ pub fn do_one(mem: &mut [u64], index: usize) -> Option<u64>
     requires there { ⌜ index ≤ length (state-of (now mem) .log) ⌝ }
     requires few { ⌜ length (state-of (now mem) .store) < state-of (now mem) .applied ⌝ }
     ensures turns { λ _. ⌜ Turns (now (mem .entry)) (now (mem .exit))
-        (do-one (state-of (now (mem .entry))) (entry-in index (log-part (now (mem .entry)))))
-        (region-one (state-of (now (mem .entry))) (entry-in index (log-part (now (mem .entry)))) (region-in (now (mem .entry)))) ⌝ }
-    ensures told { λ r. ⌜ r ≡ told-client (tell-one (limits-of (now (mem .entry))) (state-of (now (mem .entry)))
-        (entry-in index (log-part (now (mem .entry))))) ⌝ }
+        (do-one (state-of (now (mem .entry))) (entry-of (now (mem .entry)) index))
+        (region-one (state-of (now (mem .entry))) (entry-of (now (mem .entry)) index) (region-in (now (mem .entry)))) ⌝ }
+    ensures told { λ r. ⌜ r ≡ told-client (told-of (now (mem .entry)) index) ⌝ }
 {
     let numbers = numbers_at(mem, index);
     let client = numbers.client as usize;

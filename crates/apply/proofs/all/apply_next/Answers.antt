@@ -8,7 +8,8 @@ use Rattle.wire_write.proofs.Putting.{writes-as, writes-none}
 use Rattle.state.specs.Held.{limits-of, state-of}
 use Rattle.apply.specs.Applied.{session, kept-for, told-client}
 use Rattle.apply.proofs.Telling.{one-said, told-none}
-use Rattle.apply.proofs.Going.{entry-of, same-told, next-turns, next-told}
+use Rattle.apply.specs.InMemory.{entry-of}
+use Rattle.apply.proofs.Going.{same-told, next-turns, next-told}
 use Rattle.apply.proofs.all.apply_next.Needs as need
 
 pub tell-requires : need.tell-requires

@@ -19,4 +19,5 @@ index-kept-1 c =
 
 pub returns : need.returns
 returns c =
-    last-words (session (state-of (c .args .mem .now)) (c .args .client)) (c .session-part-kept .result .now) (c .session-part-kept .ensures)
+    last-words (session (state-of (c .args .mem .now)) (c .args .client)) (c .session-part-kept .result .now)
+    (c .session-part-kept .ensures)
