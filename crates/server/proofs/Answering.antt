@@ -105,14 +105,14 @@ taken m m₁ m′ xs ys e ls r t b f d =
       turns = record {
         held = d .turns .held;
         state =
-          d .turns .state
-          ∙ (ap (λ (z : Limits). after-all z (state-of m₁)) (b .limits) ∙ (ap (after-all l) (b .state) ∙ sym (after-taken l s e t)));
+            d .turns .state
+            ∙ (ap (λ (z : Limits). after-all z (state-of m₁)) (b .limits) ∙ (ap (after-all l) (b .state) ∙ sym (after-taken l s e t)));
         limits = d .turns .limits ∙ b .limits;
         region =
-          d .turns .region
-          ∙ (ap (λ (z : Limits). region-finished z (state-of m₁) (region-in m₁)) (b .limits)
-          ∙ (ap (λ (z : State). region-finished l z (region-in m₁)) (b .state)
-          ∙ (ap (region-finished l s₁) (b .region) ∙ sym (region-taken l s e (region-in m) t))));
+            d .turns .region
+            ∙ (ap (λ (z : Limits). region-finished z (state-of m₁) (region-in m₁)) (b .limits)
+            ∙ (ap (λ (z : State). region-finished l z (region-in m₁)) (b .state)
+            ∙ (ap (region-finished l s₁) (b .region) ∙ sym (region-taken l s e (region-in m) t))));
       };
       answer-is = d .answer-is ∙ ap answer-of a;
       bytes = subst (λ (z : server.Answer). Begins (write-answer z) xs ys) a (d .bytes);

@@ -120,13 +120,13 @@ request-declined m xs m′ ys c k x r o e t a b =
       turns = record {
         held = t .held;
         state =
-          t .state
-          ∙ (ap finished (sym (idle-from l s c k x e)) ∙ sym (ap (λ (n : ℕ). pick (eqb n 0) (stepped l s ev) s) o));
+            t .state
+            ∙ (ap finished (sym (idle-from l s c k x e)) ∙ sym (ap (λ (n : ℕ). pick (eqb n 0) (stepped l s ev) s) o));
         limits = t .limits;
         region =
-          t .region
-          ∙ (ap (λ (w : State). region-all w (dues w) (region-in m)) (sym (idle-from l s c k x e))
-          ∙ sym (ap (λ (n : ℕ). pick (eqb n 0) (region-all (done-from l s ev) (dues (done-from l s ev)) (region-in m)) (region-in m)) o));
+            t .region
+            ∙ (ap (λ (w : State). region-all w (dues w) (region-in m)) (sym (idle-from l s c k x e))
+            ∙ sym (ap (λ (n : ℕ). pick (eqb n 0) (region-all (done-from l s ev) (dues (done-from l s ev)) (region-in m)) (region-in m)) o));
       };
       answer-is = a ∙ ap answer-of (sym z);
       bytes = subst (λ (w : server.Answer). Begins (write-answer w) xs ys) (sym z) b;

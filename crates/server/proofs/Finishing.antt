@@ -64,9 +64,9 @@ pieces-turn m m₁ m₂ m₃ b p =
       state = p .done .state ∙ ap finished e;
       limits = p .done .limits ∙ (p .sent .limits ∙ p .settled .limits);
       region =
-        p .done .region
-        ∙ (ap (λ (z : State). region-all z (dues z) (region-in m₂)) e
-        ∙ ap (λ (z : List ℕ). region-all (ready m) (dues (ready m)) z) (p .sent .region ∙ p .settled .region));
+          p .done .region
+          ∙ (ap (λ (z : State). region-all z (dues z) (region-in m₂)) e
+          ∙ ap (λ (z : List ℕ). region-all (ready m) (dues (ready m)) z) (p .sent .region ∙ p .settled .region));
     }
 
 -- what is told

@@ -34,6 +34,9 @@ reached-held l m x = holding l m x .held
 pub reached-limits : (l : Limits) (m : List ℕ) → Reached l m → limits-of m ≡ l
 reached-limits l m x = holding l m x .limits
 
+pub reached-self : (l : Limits) (m : List ℕ) → Reached l m → Reached (limits-of m) m
+reached-self l m x = subst (λ (z : Limits). Reached z m) (sym (reached-limits l m x)) x
+
 more-readable : (e : Event) (es : List Event) → readable e ≡ true → all-readable es ≡ true → all-readable (e ∷ es) ≡ true
 unfolding all-readable
 more-readable e es p q = and-from (readable e) (all-readable es) p q
@@ -76,5 +79,5 @@ stepped m bs xs m′ ys r x p a =
       answer-is = a .answer-is;
       bytes = a .bytes;
       means = means-itself (answer (limits-of m) (state-of m) (read-event bs)) r xs ys (fine-reached m (read-event bs) x p) (a .bytes)
-      (a .answer-is);
+          (a .answer-is);
     }

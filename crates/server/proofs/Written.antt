@@ -64,7 +64,7 @@ does-answered {k = k} {j = j} {n = n} {xs = xs} {ys = ys} {ss = ss} {ts = ts} {l
     let z = w .next in
     let m : n ≡ length (write-answer (does ss ls)) = omega arith in (
       ap (λ (x : ℕ). Does x j n) p
-      ∙ (ap (λ (x : ℕ). Does (length ss) x n) q
-      ∙ (ap (Does (length ss) (length ls)) m ∙ ap answer-of d)),
+          ∙ (ap (λ (x : ℕ). Does (length ss) x n) q
+          ∙ (ap (Does (length ss) (length ls)) m ∙ ap answer-of d)),
       subst (λ (a : server.Answer). Begins (write-answer a) xs ys) d (begins w),
     )

@@ -13,7 +13,7 @@ use Rattle.wire_write.specs.Answers.{answer-of, means-answer}
 use Rattle.wire_write.specs.declared.answer.Answer as code
 use Rattle.memory.specs.Layout.{region-in, room-in}
 use Rattle.memory.specs.Program.{serves, region-all, region-after, called, says}
-use Rattle.state.specs.Held.{limits-of, state-of, Turns}
+use Rattle.state.specs.Held.{limits-of, state-of, Held, Turns}
 use Rattle.server.specs.Reached.{Reached}
 
 -- ys is xs with these bytes at its front; what stands after them is of no account
@@ -57,3 +57,7 @@ pub record Stepped (m bs xs m′ ys : List ℕ) (r : code.Answer) : Type 0 where
   pub answer-is : r ≡ answer-of (says serves m (read-event bs))
   pub bytes : Begins (write-answer (says serves m (read-event bs))) xs ys
   pub means : means-answer ys r ≡ says serves m (read-event bs)
+
+-- a memory that was reached is held, and holds the limits that it was opened with
+abbrev pub Reached-holds : Type 0
+Reached-holds = (l : Limits) (m : List ℕ) → Reached l m → Held m × (limits-of m ≡ l)

@@ -11,6 +11,7 @@ use Rattle.servers.specs.Server.{Limits}
 use Rattle.store.specs.Region.{region-size}
 use Rattle.wire.specs.Sizes.{answer-size}
 use Rattle.memory.specs.Program.{opened}
+use Rattle.state.specs.Held.{limits-of}
 use Rattle.server.specs.Reached.{Reached}
 use Rattle.server.specs.declared.open.Short.{Short}
 use Rattle.server.specs.declared.open.Short.the-variants.{Memory, Answers}
@@ -24,5 +25,5 @@ lent l words bytes = pick (eqb words (memory-size l)) (pick (leb (answer-size l)
 
 -- the memory after it was opened, or as it was
 abbrev pub Opens : Limits → List ℕ → List ℕ → Result (Unit {0}) Short → Type 0
-Opens l m m′ (Ok x) = (m′ ≡ opened l) × Reached l m′
+Opens l m m′ (Ok x) = (m′ ≡ opened l) × (limits-of m′ ≡ l) × Reached (limits-of m′) m′
 Opens l m m′ (Err x) = m′ ≡ m

@@ -45,7 +45,17 @@ fn take_message(mem: &mut [u64], b: &[u8], out: &mut [u8], from: u8, message: Me
         Message::AskVote(term, last, of) => on_ask(mem, out, from, term, last, of),
         Message::Vote(term, granted) => on_vote(mem, out, from, term, granted),
         Message::Append(term, before, before_term, commit, entries) => {
-            on_append(mem, b, out, from, term, before, before_term, commit, entries)
+            on_append(
+                mem,
+                b,
+                out,
+                from,
+                term,
+                before,
+                before_term,
+                commit,
+                entries,
+            )
         }
         Message::Appended(term, index, ok) => on_appended(mem, out, from, term, index, ok),
     }
@@ -91,7 +101,8 @@ pub fn step(mem: &mut [u64], event: &[u8], out: &mut [u8]) -> Answer
     requires reached { ⌜ Reached (limits-of (now mem)) (now mem) ⌝ }
     requires room { ⌜ answer-size (limits-of (now mem)) ≤ length (now out) ⌝ }
     ensures done { λ r. ⌜ Stepped (now (mem .entry)) (now (event .entry)) (now (out .entry)) (now (mem .exit)) (now (out .exit)) r ⌝ }
-    ensures reached { λ _. ⌜ Reached (limits-of (now (mem .entry))) (now (mem .exit)) ⌝ }
+    ensures reached { λ _. ⌜ Reached (limits-of (now (mem .exit))) (now (mem .exit)) ⌝ }
+    ensures limits { λ _. ⌜ limits-of (now (mem .exit)) ≡ limits-of (now (mem .entry)) ⌝ }
 {
     are_bytes(event);
     act(mem, event, out)

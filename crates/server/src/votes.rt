@@ -80,7 +80,14 @@ pub fn on_vote(mem: &mut [u64], out: &mut [u8], from: u8, term: u64, granted: bo
 }
 
 // What another server says of entries.
-pub fn on_appended(mem: &mut [u64], out: &mut [u8], from: u8, term: u64, index: u64, ok: bool) -> Answer
+pub fn on_appended(
+    mem: &mut [u64],
+    out: &mut [u8],
+    from: u8,
+    term: u64,
+    index: u64,
+    ok: bool,
+) -> Answer
     requires held { ⌜ Held (now mem) ⌝ }
     requires here { ⌜ from < servers-in (now mem) ⌝ }
     requires low { ⌜ term ≤ last-of-all ⌝ }

@@ -14,10 +14,10 @@ ghost use Rattle.memory.specs.Program.{region-all};
 ghost use Rattle.checks.specs.Refusals.{by-state};
 ghost use Rattle.state.specs.Held.{Held, Turns, limits-of, state-of};
 ghost use Rattle.server.specs.Answered.{Answered, Begins, Room-for};
-use apply::all::apply_all;
 use crate::finish::finish;
 use crate::first::First;
 use crate::refuse::refuse;
+use apply::all::apply_all;
 use checks::refusal::Refusal;
 use entries::append::append;
 use entries::request::request;
@@ -55,7 +55,14 @@ fn decline(mem: &mut [u64], out: &mut [u8]) -> Answer
 }
 
 // A client asks a leader.
-fn take_request(mem: &mut [u64], b: &[u8], out: &mut [u8], client: u64, id: u64, command: Command) -> Answer
+fn take_request(
+    mem: &mut [u64],
+    b: &[u8],
+    out: &mut [u8],
+    client: u64,
+    id: u64,
+    command: Command,
+) -> Answer
     requires held { ⌜ Held (now mem) ⌝ }
     requires leads { ⌜ eqb (state-of (now mem) .kind) 2 ≡ true ⌝ }
     requires within { ⌜ Command-in (now b) command ⌝ }
@@ -70,7 +77,14 @@ fn take_request(mem: &mut [u64], b: &[u8], out: &mut [u8], client: u64, id: u64,
 }
 
 // A client asks: a full log refuses, and who doesn't lead says so.
-pub fn on_request(mem: &mut [u64], b: &[u8], out: &mut [u8], client: u64, id: u64, command: Command) -> Answer
+pub fn on_request(
+    mem: &mut [u64],
+    b: &[u8],
+    out: &mut [u8],
+    client: u64,
+    id: u64,
+    command: Command,
+) -> Answer
     requires held { ⌜ Held (now mem) ⌝ }
     requires within { ⌜ Command-in (now b) command ⌝ }
     requires readable { ⌜ readable (request client id (command-of (now b) command)) ≡ true ⌝ }
@@ -113,6 +127,19 @@ pub fn on_append(
     ensures { λ r. ⌜ Answered (now (mem .entry)) (now (out .entry)) (now (mem .exit)) (now (out .exit))
         (comes from (append term before «before_term» (entries-of (now (b .entry)) entries) commit)) r ⌝ }
 {
-    let reply = append(mem, b, from as u64, term, before, before_term, commit, entries);
-    finish(mem, out, First::Reply(from, reply.term, reply.index, reply.ok))
+    let reply = append(
+        mem,
+        b,
+        from as u64,
+        term,
+        before,
+        before_term,
+        commit,
+        entries,
+    );
+    finish(
+        mem,
+        out,
+        First::Reply(from, reply.term, reply.index, reply.ok),
+    )
 }

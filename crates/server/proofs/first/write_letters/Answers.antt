@@ -42,5 +42,5 @@ returns c =
     record {
       count = omega arith;
       bytes = all-sent ls es (omega arith) (c .write-number-n0 .ensures .bytes) (c .write-first-n1 .ensures)
-      (c .write-entries-if-end .ensures);
+          (c .write-entries-if-end .ensures);
     }

@@ -17,7 +17,7 @@ returns c =
     record {
       answer = ap (λ (k : ℕ). Refused k (c .place-place .result)) n ∙ ap (Refused (refusal-number (c .args .refusal))) p;
       bytes = begins (writes-as
-      (ap (λ (k : ℕ). write-answer (refused k (c .place-place .result))) n
-      ∙ ap (λ (k : ℕ). write-answer (refused (refusal-number (c .args .refusal)) k)) p)
-      (c .write-refused .ensures .bytes));
+          (ap (λ (k : ℕ). write-answer (refused k (c .place-place .result))) n
+          ∙ ap (λ (k : ℕ). write-answer (refused (refusal-number (c .args .refusal)) k)) p)
+          (c .write-refused .ensures .bytes));
     }

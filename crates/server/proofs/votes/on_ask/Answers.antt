@@ -22,7 +22,7 @@ finish-requires c κs =
     record {
       held = b .held;
       room = room-taken m m₁ ev (first-of (limits-of m₁) (state-of m₁) x) (length (c .args .out .now)) t b
-      (sym (c .asked-for-vote-reply .ensures .reply)) (c .pre .room);
+          (sym (c .asked-for-vote-reply .ensures .reply)) (c .pre .room);
     }
 
 pub returns : need.returns

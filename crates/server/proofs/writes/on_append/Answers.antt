@@ -30,7 +30,7 @@ finish-requires c κs =
     record {
       held = c .append-reply .ensures .state .held;
       room = room-taken m m₁ ev (first-of (limits-of m₁) (state-of m₁) x) (length (c .args .out .now)) t (c .append-reply .ensures .state)
-      (sym (c .append-reply .ensures .reply)) (c .pre .room);
+          (sym (c .append-reply .ensures .reply)) (c .pre .room);
     }
 
 pub returns : need.returns
