@@ -85,7 +85,8 @@ append-given m bs h t i u c entries within o p =
     let reads = and-parts (ltb h 256) (fine-message (append t i u es c)) p in
     let fines = and-parts (eight t && eight i) (eight u && (all-fine es && eight c)) (reads .1) in
     let all = and-parts (all-fine es) (eight c) (and-parts (eight u) (all-fine es && eight c) (fines .1) .1) in
-    let row = and-parts (in-a-row i es) (leb (i + length es) (l .room)) (in-row (in-a-row i es && leb (i + length es) (l .room)) (free .1)) in
+    let fit : Bool = leb (i + length es) (l .room) in
+    let row = and-parts (in-a-row i es) fit (in-row (in-a-row i es && fit) (free .1)) in
     let room = leb-true (i + length es) (l .room) (row .1) in
     let count = count-is bs entries within in (
       ltb-true h (l .servers) (from .0),

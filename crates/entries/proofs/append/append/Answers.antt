@@ -43,7 +43,7 @@ returns c =
     let whole : following h (advanced t (extended-if (has-new s es) s i es k)) ≡ appends s h t i u es k =
     taken-is s h t i es k ∙ sym (appends-is s h t i u es k (c .pre .held .fits .1 .row) ∙ pick-true _ _ _ yes) in
     let says : append-reply s t i u es ≡ appended t (c .last-of-last .result .index) true =
-    reply-is s t i u es ∙ (pick-true _ _ _ yes ∙ ap (λ (n : ℕ). appended t n true) (sym (ap (λ (x : Last). x .index) (c .last-of-last .ensures)))) in
+    reply-is s t i u es ∙ (pick-true _ _ _ yes ∙ ap (λ (x : Last). appended t (x .index) true) (sym (c .last-of-last .ensures))) in
     record {
       state = said m m₂ _ _ whole
           (next-then (λ l x. following h (advanced t x)) m m₁ m₂ (extended-if (has-new s es) s i es k)
