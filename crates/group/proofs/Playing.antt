@@ -31,7 +31,7 @@ use Rattle.state.proofs.Holding.{always-held}
 use Rattle.group.specs.Journals.{Kept, Journals, Grows, write-came, world-in, events-of, answers-of, answer-length}
 use Rattle.group.specs.Parts.{part, Parts, Steps, Can-happen, Alive}
 use Rattle.group.specs.Playing.{group-of, Playing, Turned, Played}
-use Rattle.group.specs.Stub.{Reached}
+use Rattle.server.specs.Reached.{Reached}
 use Rattle.group.specs.declared.happen.Group as groups
 use Rattle.group.specs.declared.happen.Kept as kepts
 use Rattle.group.proofs.Journals.{journals-grow, grown-happens}
@@ -139,24 +139,24 @@ played p k k′ i to bs m xs ys m′ xs′ ys′ r pl low fit can put t eh ee ea
     let room = put .room in
     let next : to ≡ k .events + length (write-came i bs) = put .next in
     let grows : Grows (k .events) (k .answers) xs ys i bs a xs′ ys′ =
-        record {
-          fits = and-from (bytes bs) (eight (length bs)) (fit .0) (lt-ltb (length bs) 18446744073709551616 (fit .1));
-          fine = fine-says (limits g i) (part (p .words) i m) e x fine;
-          came =
-              ap (take (k .events + length (write-came i bs))) (put .bytes)
-              ∙ take-put-all (k .events) (write-came i bs) xs (omega arith);
-          answered = t .answered;
-        } in
+    record {
+      fits = and-from (bytes bs) (eight (length bs)) (fit .0) (lt-ltb (length bs) 18446744073709551616 (fit .1));
+      fine = fine-says (limits g i) (part (p .words) i m) e x fine;
+      came =
+          ap (take (k .events + length (write-came i bs))) (put .bytes)
+          ∙ take-put-all (k .events) (write-came i bs) xs (omega arith);
+      answered = t .answered;
+    } in
     let journals = journals-grow n (k .events) (k .answers) xs ys i bs a xs′ ys′ (pl .journals) grows .0 in
     let world : world-in (k′ .happenings) xs′ ys′ ≡ happens server g w i e =
-        ap (λ (z : ℕ). world-in z xs′ ys′) eh
-        ∙ grown-happens g n (k .events) (k .answers) xs ys i bs a xs′ ys′ (pl .journals) grows
-            (ap (λ (z : List ℕ). says serves z e) (held g (p .words) m w i low (pl .parts))) in
+    ap (λ (z : ℕ). world-in z xs′ ys′) eh
+    ∙ grown-happens g n (k .events) (k .answers) xs ys i bs a xs′ ys′ (pl .journals) grows
+    (ap (λ (z : List ℕ). says serves z e) (held g (p .words) m w i low (pl .parts))) in
     let steps : Steps g (p .words) i e m m′ = record { called-there = t .there; others = λ j lower ne. t .others j ne } in
     let alive : Alive g (world-in (k′ .happenings) xs′ ys′) =
-        subst (λ (z : World). Alive g z) (sym world) (alive-on g w i e low fine can (pl .alive)) in
+    subst (λ (z : World). Alive g z) (sym world) (alive-on g w i e low fine can (pl .alive)) in
     let ends-at : k .answers + length (write-answer a) ≡ k′ .answers =
-        ap (λ (z : ℕ). k .answers + z) (sym (ap answer-length (t .answer-is) ∙ answer-long a)) ∙ sym ea in
+    ap (λ (z : ℕ). k .answers + z) (sym (ap answer-length (t .answer-is) ∙ answer-long a)) ∙ sym ea in
     let long = pl .long in
     let same = t .long in
     record {

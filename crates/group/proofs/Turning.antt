@@ -17,7 +17,7 @@ use Rattle.wire_write.specs.declared.answer.Answer.{Answer}
 use Rattle.memory.specs.Program.{serves, says}
 use Rattle.group.specs.Parts.{part}
 use Rattle.group.specs.Playing.{Turned}
-use Rattle.group.specs.Stub.{Stepped}
+use Rattle.server.specs.Answered.{Stepped}
 use Rattle.group.proofs.Letters.{same-part}
 
 -- the rest of a list from a place on
@@ -44,7 +44,7 @@ front-put a k n xs ys h low =
     let rest : List ℕ = drop k (drop a xs) in
     let f : List ℕ = take a xs in
     let split : ys ++ rest ≡ take n ys ++ (drop n ys ++ rest) =
-        ap (λ (z : List ℕ). z ++ rest) (sym (take-append-drop n ys)) ∙ append-assoc (take n ys) (drop n ys) rest in
+    ap (λ (z : List ℕ). z ++ rest) (sym (take-append-drop n ys)) ∙ append-assoc (take n ys) (drop n ys) rest in
     let t = length-take-le a xs h in
     let u = length-take-le n ys low in
     let l = length-append f (take n ys) in

@@ -3,4 +3,3 @@ pub mod Parts
 pub mod Letters
 pub mod Explained
 pub mod Playing
-pub mod Stub

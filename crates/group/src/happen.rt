@@ -9,12 +9,11 @@ ghost use Rattle.state.specs.Held.{limits-of};
 ghost use Rattle.group.specs.Journals.{world-in};
 ghost use Rattle.group.specs.Parts.{part, Can-happen};
 ghost use Rattle.group.specs.Playing.{Playing, Turned, Outcome};
-ghost use Rattle.group.specs.Stub.{Reached};
+ghost use Rattle.server.specs.Reached.{Reached};
 use crate::journal::HEAD;
 use crate::journal::answer_bytes;
 use crate::journal::put_came;
-use crate::stub::are_bytes;
-use crate::stub::step;
+use server::step::step;
 use wire_write::answer::Answer;
 
 // What a group is opened with; how many words each server has, and how many bytes its longest answer.
@@ -43,7 +42,14 @@ pub enum Full {
 }
 
 // A step of one server in its part of the memory, with its answer at a place.
-fn turn(mems: &mut [u64], words: usize, server: usize, event: &[u8], answers: &mut [u8], at: usize) -> Answer
+fn turn(
+    mems: &mut [u64],
+    words: usize,
+    server: usize,
+    event: &[u8],
+    answers: &mut [u8],
+    at: usize,
+) -> Answer
     requires within { ⌜ server * words + words ≤ length (now mems) ⌝ }
     requires reached { ⌜ Reached (limits-of (part words server (now mems))) (part words server (now mems)) ⌝ }
     requires room { ⌜ at + answer-size (limits-of (part words server (now mems))) ≤ length (now answers) ⌝ }
@@ -51,11 +57,7 @@ fn turn(mems: &mut [u64], words: usize, server: usize, event: &[u8], answers: &m
         (now (mems .exit)) (now (answers .exit)) r ⌝ }
 {
     let start = server * words;
-    step(
-        &mut mems[start..start + words],
-        event,
-        &mut answers[at..],
-    )
+    step(&mut mems[start..start + words], event, &mut answers[at..])
 }
 
 // An event happens at a server of the group, unless there is no room to keep it: then nothing changes, and it says what is full.

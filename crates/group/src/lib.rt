@@ -2,4 +2,3 @@
 pub mod happen;
 pub mod journal;
 pub mod promises;
-pub mod stub;

@@ -12,7 +12,7 @@ use Rattle.state.specs.Held.{limits-of}
 use Rattle.group.specs.Journals.{events-of, answers-of, answer-length}
 use Rattle.group.specs.Parts.{part}
 use Rattle.group.specs.Playing.{group-of}
-use Rattle.group.specs.Stub.{Reached}
+use Rattle.server.specs.Reached.{Reached}
 use Rattle.group.proofs.Playing.{are-bytes, reached, its-limits, ends, few, answer-long, part-within, played}
 use Rattle.group.proofs.happen.happen.Needs as need
 
@@ -59,7 +59,7 @@ add-result-2 c =
     let t = c .turn-answer .ensures in
     let within = t .within in
     let e = c .answer-bytes .ensures ∙ (ap answer-length (t .answer-is)
-        ∙ answer-long (says serves (part (c .args .g .words) (c .args .server) (c .args .mems .now)) (read-event (c .args .event .now)))) in
+    ∙ answer-long (says serves (part (c .args .g .words) (c .args .server) (c .args .mems .now)) (read-event (c .args .event .now)))) in
     omega arith
 
 pub returns : need.returns

@@ -8,7 +8,8 @@ use Rattle.std.proofs.shelf.Lists.{length-drop, length-take-le}
 use Rattle.wire.specs.Sizes.{answer-size}
 use Rattle.state.specs.Held.{limits-of}
 use Rattle.group.specs.Playing.{Turned}
-use Rattle.group.specs.Stub.{Reached, Stepped}
+use Rattle.server.specs.Reached.{Reached}
+use Rattle.server.specs.Answered.{Stepped}
 use Rattle.group.proofs.Turning.{rest-long, turning}
 use Rattle.group.proofs.happen.turn.Needs as need
 
@@ -45,5 +46,5 @@ returns c =
     let t = length-take-le words (drop (i * words) m) (omega arith) in
     let long : length p ≡ words = omega arith in
     subst (λ (k : ℕ). Stepped (take k (drop (i * words) m)) bs (take (length ys - at) (drop at ys)) p q (c .step .result)
-        → Turned words i at bs m ys (putMid (i * words) k m p) (putMid at (length ys - at) ys q) (c .step .result)) e
+    → Turned words i at bs m ys (putMid (i * words) k m p) (putMid at (length ys - at) ys q) (c .step .result)) e
     (λ s. turning words i at bs m ys p q (c .step .result) within (omega arith) long s) (c .step .ensures .done)

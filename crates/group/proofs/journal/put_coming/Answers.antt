@@ -17,7 +17,7 @@ returns c =
           writes-then (c .write-byte-size .ensures .bytes)
           (writes-then
           (subst (λ (n : ℕ). Writes (c .write-byte-size .result) (write-number n) (c .write-byte-size .last .out)
-              (c .write-number-event .last .out) (c .write-number-event .result)) two (c .write-number-event .ensures .bytes))
+          (c .write-number-event .last .out) (c .write-number-event .result)) two (c .write-number-event .ensures .bytes))
           (c .write-comes .ensures .bytes));
       next = omega arith;
     }
