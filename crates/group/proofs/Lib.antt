@@ -4,3 +4,4 @@ pub mod Letters
 pub mod Explained
 pub mod Turning
 pub mod Playing
+pub mod Opening

@@ -34,7 +34,7 @@ length-put a k xs ys h e =
     omega arith
 
 -- what stands in the part
-part-put : (a k : ℕ) (xs ys : List ℕ) → a ≤ length xs → length ys ≡ k → take k (drop a (putMid a k xs ys)) ≡ ys
+pub part-put : (a k : ℕ) (xs ys : List ℕ) → a ≤ length xs → length ys ≡ k → take k (drop a (putMid a k xs ys)) ≡ ys
 part-put a k xs ys h e =
     ap (take k) (drop-at (take a xs) (ys ++ drop k (drop a xs)) a (length-take-le a xs h)) ∙ take-at ys (drop k (drop a xs)) k e
 
@@ -57,7 +57,7 @@ below : (i j words : ℕ) → j < i → j * words + words ≤ i * words
 below i j words h =
     let p : suc j * words ≤ i * words = mul-le-mul-right words (omega arith) in let q = suc-mul j words in omega arith
 
-others : (words i j : ℕ) (m p : List ℕ) → i * words + words ≤ length m → length p ≡ words → j ≢ i
+pub others : (words i j : ℕ) (m p : List ℕ) → i * words + words ≤ length m → length p ≡ words → j ≢ i
     → part words j (putMid (i * words) words m p) ≡ part words j m
 others words i j m p h e ne = so (cases-order j i)
   where

@@ -3,3 +3,4 @@ pub mod Parts
 pub mod Letters
 pub mod Explained
 pub mod Playing
+pub mod Opening
