@@ -1,12 +1,13 @@
 -- A group that plays: what its memories hold from one happening to the next. Assumes nothing: these are definitions.
 use mathlib.Core.Path.{_≡_}
+use mathlib.Core.Bool.{Bool, true, false}
 use mathlib.Core.List.{List, [], _∷_, _++_}
 use mathlib.Core.Logic.{_≢_}
 use Prim.Native.Nat.{ℕ, suc, _+_, _*_, _≤_, _<_}
 use lib.ListN.{length, take}
 use Rattle.std.specs.declared.result.Result.{Result}
 use Rattle.std.specs.declared.result.Result.the-variants.{Ok, Err}
-use Rattle.servers.specs.Server.{Event, Answer}
+use Rattle.servers.specs.Server.{Event, timeout, request, comes, restart, garbled, Answer}
 use Rattle.servers.specs.World.{Group, World, limits, happens}
 use Rattle.servers.specs.Promise.{Good-group}
 use Rattle.wire.specs.Write.{write-answer}
@@ -20,7 +21,8 @@ use Rattle.group.specs.Parts.{part, Parts, Alive}
 use Rattle.group.specs.Explained.{Explained}
 use Rattle.group.specs.declared.happen.Group as code
 use Rattle.group.specs.declared.happen.Kept.{Kept}
-use Rattle.group.specs.declared.happen.Full.{Full}
+use Rattle.group.specs.declared.happen.Denied.{Denied}
+use Rattle.group.specs.declared.happen.Denied.the-variants.{Server, Message, Events, Answers}
 
 -- the group of the definitions
 abbrev pub group-of : code.Group → Group
@@ -57,8 +59,23 @@ pub record Played (p : code.Group) (k : Kept) (i : ℕ) (e : Event) (xs ys : Lis
   pub playing : Playing p k′ m′ xs′ ys′
   pub explained : Explained (group-of p) (world-of k′ xs′ ys′)
 
--- or something is full, and nothing changed
+-- whether an event is a message from a server
+abbrev pub from-server : Event → Bool
+from-server timeout = false
+from-server (request c k x) = false
+from-server (comes h m) = true
+from-server restart = false
+from-server (garbled n) = false
+
+-- why an event with these bytes is denied
+abbrev pub Why : code.Group → Kept → ℕ → List ℕ → List ℕ → List ℕ → Denied → Type 0
+Why p k i bs xs ys Server = p .servers ≤ i
+Why p k i bs xs ys Message = from-server (read-event bs) ≡ true
+Why p k i bs xs ys Events = length xs < k .events + 9 + length bs
+Why p k i bs xs ys Answers = length ys < k .answers + p .longest
+
+-- played; or denied, for a reason, and nothing changed
 abbrev pub Outcome :
-    code.Group → Kept → ℕ → Event → List ℕ → List ℕ → List ℕ → List ℕ → List ℕ → List ℕ → Result Kept Full → Type 0
-Outcome p k i e m xs ys m′ xs′ ys′ (Ok k′) = Played p k i e xs ys k′ m′ xs′ ys′
-Outcome p k i e m xs ys m′ xs′ ys′ (Err full) = (m′ ≡ m) × (xs′ ≡ xs) × (ys′ ≡ ys)
+    code.Group → Kept → ℕ → List ℕ → List ℕ → List ℕ → List ℕ → List ℕ → List ℕ → List ℕ → Result Kept Denied → Type 0
+Outcome p k i bs m xs ys m′ xs′ ys′ (Ok k′) = Played p k i (read-event bs) xs ys k′ m′ xs′ ys′
+Outcome p k i bs m xs ys m′ xs′ ys′ (Err why) = Why p k i bs xs ys why × (m′ ≡ m) × (xs′ ≡ xs) × (ys′ ≡ ys)

@@ -8,12 +8,14 @@ ghost use Rattle.wire.specs.Read.{read-event};
 ghost use Rattle.state.specs.Held.{limits-of};
 ghost use Rattle.group.specs.Journals.{world-in};
 ghost use Rattle.group.specs.Parts.{part, Can-happen};
-ghost use Rattle.group.specs.Playing.{Playing, Turned, Outcome};
+ghost use Rattle.group.specs.Playing.{Playing, Turned, Outcome, from-server};
 ghost use Rattle.server.specs.Reached.{Reached};
 use crate::journal::HEAD;
 use crate::journal::answer_bytes;
 use crate::journal::put_came;
 use server::step::step;
+use wire_read::event::read_event;
+use wire_read::parts::Event;
 use wire_write::answer::Answer;
 
 // What a group is opened with; how many words each server has, and how many bytes its longest answer.
@@ -34,9 +36,11 @@ pub struct Kept {
     pub answers: usize,
 }
 
-// What is full.
+// Why nothing happens: there is no such server, it is a message that this group's servers didn't send, or a journal is full.
 #[derive(Clone, Copy, PartialEq, Eq, Debug)]
-pub enum Full {
+pub enum Denied {
+    Server,
+    Message,
     Events,
     Answers,
 }
@@ -69,18 +73,18 @@ pub fn happen(
     answers: &mut [u8],
     server: u8,
     event: &[u8],
-) -> Result<Kept, Full>
+) -> Result<Kept, Denied>
     requires playing { ⌜ Playing g kept (now mems) (now events) (now answers) ⌝ }
     requires there { ⌜ server < g .servers ⌝ }
     requires can { ⌜ Can-happen (world-in (kept .happenings) (now events) (now answers)) server (read-event (now event)) ⌝ }
-    ensures { λ r. ⌜ Outcome g kept server (read-event (now (event .entry))) (now (mems .entry)) (now (events .entry)) (now (answers .entry))
+    ensures { λ r. ⌜ Outcome g kept server (now (event .entry)) (now (mems .entry)) (now (events .entry)) (now (answers .entry))
         (now (mems .exit)) (now (events .exit)) (now (answers .exit)) r ⌝ }
 {
     if events.len() - kept.events < HEAD + event.len() {
-        return Err(Full::Events);
+        return Err(Denied::Events);
     }
     if answers.len() - kept.answers < g.longest {
-        return Err(Full::Answers);
+        return Err(Denied::Answers);
     }
     let end = put_came(events, kept.events, server, event);
     let answer = turn(mems, g.words, server as usize, event, answers, kept.answers);
@@ -89,4 +93,40 @@ pub fn happen(
         events: end,
         answers: kept.answers + answer_bytes(answer),
     })
+}
+
+// Whether bytes are read as a message from a server.
+fn is_message(event: &[u8]) -> bool
+    ensures { λ r. ⌜ r ≡ from-server (read-event (now (event .entry))) ⌝ }
+{
+    match read_event(event) {
+        Event::Comes(_, _) => true,
+        Event::Timeout => false,
+        Event::Request(_, _, _) => false,
+        Event::Restart => false,
+        Event::Garbled(_) => false,
+    }
+}
+
+// What comes from outside: a timer ends, a client asks, a server restarts, or bytes come that are no event. A message is denied.
+pub fn happen_outside(
+    g: Group,
+    kept: Kept,
+    mems: &mut [u64],
+    events: &mut [u8],
+    answers: &mut [u8],
+    server: u8,
+    event: &[u8],
+) -> Result<Kept, Denied>
+    requires playing { ⌜ Playing g kept (now mems) (now events) (now answers) ⌝ }
+    ensures { λ r. ⌜ Outcome g kept server (now (event .entry)) (now (mems .entry)) (now (events .entry)) (now (answers .entry))
+        (now (mems .exit)) (now (events .exit)) (now (answers .exit)) r ⌝ }
+{
+    if server as u64 >= g.servers {
+        return Err(Denied::Server);
+    }
+    if is_message(event) {
+        return Err(Denied::Message);
+    }
+    happen(g, kept, mems, events, answers, server, event)
 }
