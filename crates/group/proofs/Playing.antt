@@ -7,7 +7,7 @@ use mathlib.Core.List.{List, [], _∷_, _++_}
 use Prim.Native.Nat.{ℕ, zero, suc, _+_, _*_, _-_, _≤_, _<_}
 use lib.Dec.{ltb}
 use lib.ListN.{length, take, drop, getD}
-use Rattle.std.proofs.shelf.Lists.{length-append, length-take, length-take-le}
+use Rattle.std.proofs.shelf.Lists.{append-assoc, drop-at, length-append, length-take, length-take-le, take-at}
 use Rattle.std.proofs.shelf.Tests.{and-parts, and-from, lt-ltb}
 use Rattle.servers.specs.Server.{Limits, Event, Answer, refused, not-leader, does, state, answer}
 use Rattle.servers.specs.World.{Group, World, limits, seen, memory, happens}
@@ -177,3 +177,23 @@ played p k k′ i to bs m xs ys m′ xs′ ys′ r pl low fit can put t eh ee ea
           };
       explained = alive-is-explained g (world-in (k′ .happenings) xs′ ys′) (pl .good) alive;
     }
+
+-- the event's bytes where they were written
+abbrev head : ℕ → List ℕ → List ℕ
+head i bs = i ∷ write-number (length bs)
+
+pub came-part :
+    (e i to : ℕ) (bs xs xs′ : List ℕ) → e ≤ length xs → Writes e (write-came i bs) xs xs′ to → take (to - (e + 9)) (drop (e + 9) xs′) ≡ bs
+came-part e i to bs xs xs′ low put =
+    let rest : List ℕ = drop (e + length (write-came i bs)) xs in
+    let f : List ℕ = take e xs ++ head i bs in
+    let all : xs′ ≡ f ++ (bs ++ rest) =
+    put .bytes ∙ (ap (λ (z : List ℕ). take e xs ++ z) (append-assoc (head i bs) bs rest)
+    ∙ sym (append-assoc (take e xs) (head i bs) (bs ++ rest))) in
+    let l = length-append (take e xs) (head i bs) in
+    let t = length-take-le e xs low in
+    let n = number-long (length bs) in
+    let long = came-long i bs in
+    let next = put .next in
+    ap (λ (z : List ℕ). take (to - (e + 9)) (drop (e + 9) z)) all
+    ∙ (ap (take (to - (e + 9))) (drop-at f (bs ++ rest) (e + 9) (omega arith)) ∙ take-at bs rest (to - (e + 9)) (omega arith))

@@ -13,6 +13,7 @@ use Rattle.std.proofs.shelf.Parts.{take-putMid-below, drop-putMid}
 use Rattle.std.proofs.shelf.Tests.{cases-order}
 use Rattle.wire.specs.Write.{write-answer}
 use Rattle.wire.specs.Read.{read-event}
+use Rattle.wire.specs.Codec.{Slice}
 use Rattle.wire_write.specs.declared.answer.Answer.{Answer}
 use Rattle.memory.specs.Program.{serves, says}
 use Rattle.group.specs.Parts.{part}
@@ -69,21 +70,24 @@ others words i j m p h e ne = so (cases-order j i)
     so (inr (inr q)) = ap (take words) (drop-putMid (i * words) words m p (j * words) (below j i words q) (omega arith) e)
 
 pub turning :
-    (words i at : ℕ) (bs m ys p q : List ℕ) (r : Answer) → i * words + words ≤ length m → at ≤ length ys → length p ≡ words
+    (words i at : ℕ) (bs m ys p q : List ℕ) (r : Answer) → i * words + words ≤ length m → at ≤ length ys
+    → length ys < 18446744073709551616 → length p ≡ words → Slice bs
     → Stepped (part words i m) bs (take (length ys - at) (drop at ys)) p q r
     → Turned words i at bs m ys (putMid (i * words) words m p) (putMid at (length ys - at) ys q) r
-turning words i at bs m ys p q r h low e s =
+turning words i at bs m ys p q r h low word e slice s =
     let w : List ℕ = write-answer (says serves (part words i m) (read-event bs)) in
     let long = s .bytes .long in
     let within = s .bytes .within in
     let rest = rest-long at ys in
     let all = length-put at (length ys - at) ys q (omega arith) (omega arith) in
     record {
+      event = slice;
       there = part-put (i * words) words m p (omega arith) e ∙ s .memory;
       others = λ j ne. others words i j m p h e ne;
       long = length-put (i * words) words m p h e;
       answer-is = s .answer-is;
       within = omega arith;
+      fits = omega arith;
       answered =
           front-put at (length ys - at) (length w) ys q low within ∙ ap (λ (z : List ℕ). take at ys ++ z) (s .bytes .front);
     }

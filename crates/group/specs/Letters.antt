@@ -25,9 +25,13 @@ unfoldable pub Indexed : ℕ → List ℕ → List ℕ → List Sent → Type 0
 Indexed used answers ws [] = Unit {0}
 Indexed used answers ws (s ∷ ss) = Points used answers ws s × Indexed used answers (drop 4 ws) ss
 
--- the bytes of a letter's coming, from its words: 2, the sender, and the message's bytes as they stand
+-- the bytes of a letter's coming: 2, the sender, and the message's bytes as they stand
+abbrev pub message-coming : ℕ → ℕ → ℕ → List ℕ → List ℕ
+message-coming by start len answers = 2 ∷ (by ∷ take len (drop start answers))
+
+-- from the letter's words
 abbrev pub coming : List ℕ → List ℕ → List ℕ
-coming answers ws = 2 ∷ (getD ws 0 0 ∷ take (getD ws 3 0) (drop (getD ws 2 0) answers))
+coming answers ws = message-coming (getD ws 0 0) (getD ws 2 0) (getD ws 3 0) answers
 
 -- more answers after the first leave the index as it is
 abbrev pub Index-stays : Type 0

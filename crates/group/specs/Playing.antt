@@ -12,6 +12,7 @@ use Rattle.servers.specs.World.{Group, World, limits, happens}
 use Rattle.servers.specs.Promise.{Good-group}
 use Rattle.wire.specs.Write.{write-answer}
 use Rattle.wire.specs.Read.{read-event}
+use Rattle.wire.specs.Codec.{Slice}
 use Rattle.wire.specs.Sizes.{answer-size}
 use Rattle.wire_write.specs.Answers.{answer-of}
 use Rattle.wire_write.specs.declared.answer.Answer as answers
@@ -43,11 +44,13 @@ pub record Playing (p : code.Group) (k : Kept) (mems events answers : List ℕ) 
 
 -- a step of one server, its answer at a place
 pub record Turned (words i at : ℕ) (bs m ys m′ ys′ : List ℕ) (r : answers.Answer) : Type 0 where
+  pub event : Slice bs
   pub there : part words i m′ ≡ called serves (part words i m) (read-event bs)
   pub others : (j : ℕ) → j ≢ i → part words j m′ ≡ part words j m
   pub long : length m′ ≡ length m
   pub answer-is : r ≡ answer-of (says serves (part words i m) (read-event bs))
   pub within : at + length (write-answer (says serves (part words i m) (read-event bs))) ≤ length ys′
+  pub fits : at + length (write-answer (says serves (part words i m) (read-event bs))) < 18446744073709551616
   pub answered :
       take (at + length (write-answer (says serves (part words i m) (read-event bs)))) ys′
       ≡ take at ys ++ write-answer (says serves (part words i m) (read-event bs))

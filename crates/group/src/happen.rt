@@ -7,12 +7,14 @@ ghost use Rattle.wire.specs.Sizes.{answer-size};
 ghost use Rattle.wire.specs.Read.{read-event};
 ghost use Rattle.state.specs.Held.{limits-of};
 ghost use Rattle.group.specs.Journals.{world-in};
+ghost use Rattle.group.specs.Letters.{message-coming};
 ghost use Rattle.group.specs.Parts.{part, Can-happen};
 ghost use Rattle.group.specs.Playing.{Playing, Turned, Outcome, from-server};
 ghost use Rattle.server.specs.Reached.{Reached};
 use crate::journal::HEAD;
 use crate::journal::answer_bytes;
 use crate::journal::put_came;
+use crate::journal::put_coming;
 use server::step::step;
 use wire_read::event::read_event;
 use wire_read::parts::Event;
@@ -129,4 +131,52 @@ pub fn happen_outside(
         return Err(Denied::Message);
     }
     happen(g, kept, mems, events, answers, server, event)
+}
+
+// A letter comes: its message's bytes, which stand in the journal of answers, are an event at the server that it was sent to.
+pub fn come(
+    g: Group,
+    kept: Kept,
+    mems: &mut [u64],
+    events: &mut [u8],
+    answers: &mut [u8],
+    server: u8,
+    from: u8,
+    start: usize,
+    len: usize,
+) -> Result<Kept, Denied>
+    requires playing { ⌜ Playing g kept (now mems) (now events) (now answers) ⌝ }
+    requires there { ⌜ server < g .servers ⌝ }
+    requires within { ⌜ start + len ≤ kept .answers ⌝ }
+    requires can { ⌜ Can-happen (world-in (kept .happenings) (now events) (now answers)) server
+        (read-event (message-coming from start len (now answers))) ⌝ }
+    ensures { λ r. ⌜ Outcome g kept server (message-coming from start len (now (answers .entry))) (now (mems .entry))
+        (now (events .entry)) (now (answers .entry)) (now (mems .exit)) (now (events .exit)) (now (answers .exit)) r ⌝ }
+{
+    if events.len() - kept.events < HEAD + 2 + len {
+        return Err(Denied::Events);
+    }
+    if answers.len() - kept.answers < g.longest {
+        return Err(Denied::Answers);
+    }
+    let end = put_coming(
+        events,
+        kept.events,
+        server,
+        from,
+        &answers[start..start + len],
+    );
+    let answer = turn(
+        mems,
+        g.words,
+        server as usize,
+        &events[kept.events + HEAD..end],
+        answers,
+        kept.answers,
+    );
+    Ok(Kept {
+        happenings: kept.happenings + 1,
+        events: end,
+        answers: kept.answers + answer_bytes(answer),
+    })
 }

@@ -13,7 +13,7 @@ use Rattle.group.specs.Journals.{events-of, answers-of, answer-length}
 use Rattle.group.specs.Parts.{part}
 use Rattle.group.specs.Playing.{group-of}
 use Rattle.server.specs.Reached.{Reached}
-use Rattle.group.proofs.Playing.{are-bytes, reached, its-limits, ends, few, answer-long, part-within, played}
+use Rattle.group.proofs.Playing.{reached, its-limits, ends, few, answer-long, part-within, played}
 use Rattle.group.proofs.happen.happen.Needs as need
 
 pub sub-events : need.sub-events
@@ -57,7 +57,7 @@ add-result c =
 pub add-result-2 : need.add-result-2
 add-result-2 c =
     let t = c .turn-answer .ensures in
-    let within = t .within in
+    let low = t .fits in
     let e = c .answer-bytes .ensures ∙ (ap answer-length (t .answer-is)
     ∙ answer-long (says serves (part (c .args .g .words) (c .args .server) (c .args .mems .now)) (read-event (c .args .event .now)))) in
     omega arith
@@ -67,5 +67,5 @@ returns c =
     played (c .args .g) (c .args .kept) _ (c .args .server) (c .put-came-end .result) (c .args .event .now) (c .args .mems .now)
     (c .args .events .now) (c .args .answers .now) (c .turn-answer .last .mems) (c .put-came-end .last .events)
     (c .turn-answer .last .answers) (c .turn-answer .result) (c .pre .playing) (c .pre .there)
-    (are-bytes (c .args .event .now) (λ i. c .typed .event i .fits), omega arith) (c .pre .can) (c .put-came-end .ensures .bytes)
+    (c .turn-answer .ensures .event) (c .pre .can) (c .put-came-end .ensures .bytes)
     (c .turn-answer .ensures) (omega arith) refl (ap (λ (n : ℕ). c .args .kept .answers + n) (c .answer-bytes .ensures))

@@ -5,12 +5,14 @@ use Prim.Native.Nat.{ℕ, _+_, _*_, _-_, _≤_}
 use lib.ListN.{length, take, drop}
 use borrow.Rule.Slice.PartMut.{putMid}
 use Rattle.std.proofs.shelf.Lists.{length-drop, length-take-le}
+use Rattle.wire.specs.Codec.{Slice}
 use Rattle.wire.specs.Sizes.{answer-size}
 use Rattle.state.specs.Held.{limits-of}
 use Rattle.group.specs.Playing.{Turned}
 use Rattle.server.specs.Reached.{Reached}
 use Rattle.server.specs.Answered.{Stepped}
 use Rattle.group.proofs.Turning.{rest-long, turning}
+use Rattle.group.proofs.Playing.{are-bytes}
 use Rattle.group.proofs.happen.turn.Needs as need
 
 pub step-requires : need.step-requires
@@ -44,7 +46,8 @@ returns c =
     let room = c .pre .room in
     let d = length-drop (i * words) m in
     let t = length-take-le words (drop (i * words) m) (omega arith) in
+    let slice : Slice bs = (are-bytes bs (λ j. let f = c .typed .event j in omega arith), omega arith) in
     let long : length p ≡ words = omega arith in
     subst (λ (k : ℕ). Stepped (take k (drop (i * words) m)) bs (take (length ys - at) (drop at ys)) p q (c .step .result)
     → Turned words i at bs m ys (putMid (i * words) k m p) (putMid at (length ys - at) ys q) (c .step .result)) e
-    (λ s. turning words i at bs m ys p q (c .step .result) within (omega arith) long s) (c .step .ensures .done)
+    (λ s. turning words i at bs m ys p q (c .step .result) within (omega arith) (omega arith) long slice s) (c .step .ensures .done)
