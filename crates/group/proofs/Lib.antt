@@ -1,0 +1,6 @@
+pub mod Journals
+pub mod Parts
+pub mod Letters
+pub mod Explained
+pub mod Turning
+pub mod Playing
