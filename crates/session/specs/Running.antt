@@ -1,10 +1,12 @@
 -- What a session promises: memory and answers' records, by the events of the records that were taken. Assumes nothing: these are
 -- definitions.
 use mathlib.Core.Path.{_≡_}
+use mathlib.Core.Bool.{true}
 use mathlib.Core.List.{List, [], _∷_, _++_}
-use Prim.Native.Nat.{ℕ, _+_, _≤_}
+use Prim.Native.Nat.{ℕ, _+_, _≤_, _<_}
 use lib.ListN.{length, take, drop}
 use Rattle.wire.specs.Read.{Read, got, stuck, read-event, read-text}
+use Rattle.wire_read.specs.Means.{is-got}
 use Rattle.wire.specs.Write.{write-answer, write-record}
 use Rattle.wire_write.specs.declared.answer.Answer.{Answer}
 use Rattle.wire_write.specs.declared.answer.Answer.the-variants.{Refused, NotLeader, Does}
@@ -59,3 +61,7 @@ pub record Ran (m rs xs m′ ys : List ℕ) (t : Taken) : Type 0 where
   pub long : length ys ≡ length xs
   pub reached : Reached (limits-of m′) m′
   pub limits : limits-of m′ ≡ limits-of m
+
+-- and no more could be taken: where a whole record is left, the bytes have no room for the record of a longest answer
+abbrev pub Ended : List ℕ → ℕ → ℕ → Taken → Type 0
+Ended rs n size t = is-got (read-text (drop (t .read) rs)) ≡ true → n < t .written + size

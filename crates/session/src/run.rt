@@ -7,7 +7,7 @@ ghost use Rattle.wire.specs.Sizes.{answer-size};
 ghost use Rattle.wire_read.specs.Means.{Text-in, text-of};
 ghost use Rattle.state.specs.Held.{limits-of};
 ghost use Rattle.server.specs.Reached.{Reached};
-ghost use Rattle.session.specs.Running.{answer-length, Ran, Ran-one};
+ghost use Rattle.session.specs.Running.{answer-length, Ended, Ran, Ran-one};
 use server::open::answer_bytes;
 use server::step::step;
 use state::limits::limits;
@@ -62,7 +62,8 @@ fn longest(mem: &[u64]) -> usize
 // Whole records are taken while there is room for the record of a longest answer.
 pub fn run(mem: &mut [u64], records: &[u8], out: &mut [u8]) -> Taken
     requires reached { ⌜ Reached (limits-of (now mem)) (now mem) ⌝ }
-    ensures { λ r. ⌜ Ran (now (mem .entry)) (now (records .entry)) (now (out .entry)) (now (mem .exit)) (now (out .exit)) r ⌝ }
+    ensures ran { λ r. ⌜ Ran (now (mem .entry)) (now (records .entry)) (now (out .entry)) (now (mem .exit)) (now (out .exit)) r ⌝ }
+    ensures ended { λ r. ⌜ Ended (now (records .entry)) (length (now (out .exit))) (8 + answer-size (limits-of (now (mem .entry)))) r ⌝ }
 {
     let size = longest(mem);
     let mut done = Taken {
