@@ -1,12 +1,20 @@
 // serve: one server over a file of events. `serve SERVERS ME CLIENTS ROOM [FILE]` reads records of events from the file, or from
 // standard input, and writes the records of their answers to standard output.
+ghost use Rattle.state.specs.Held.{limits-of};
+ghost use Rattle.servers.specs.Opened.{limits-of as limits-for};
+ghost use Rattle.servers.specs.Promise.{Good-limits};
+ghost use Rattle.memory.specs.Program.{serves};
+ghost use Rattle.server.specs.Reached.{Reached};
+use server::open::answer_bytes;
+use server::open::memory_words;
+use server::open::open;
 use servers::limits::Limits;
+use session::run::Taken;
+use session::run::run;
 use shell::arguments::ComplaintDisplay;
 use shell::arguments::limits;
-use shell::feed::fill;
+use shell::feed::fill_if;
 use shell::feed::keep;
-use stateless::records::Taken;
-use stateless::records::answer_records;
 use std::alloc::Global;
 use std::env;
 use std::error::AnyError;
@@ -16,56 +24,71 @@ use std::io::Write;
 
 const CHUNK: usize = 65_536;
 
+const MANY: usize = 1_048_576;
+
 const USAGE: &str = "usage: serve SERVERS ME CLIENTS ROOM [FILE]";
 
-fn not_yet(heap: Global, record: u64) -> Result<AnyError, AnyError> {
+fn cut_off(heap: Global, left: usize) -> Result<AnyError, AnyError> {
     Ok(format!(
         heap,
-        "record {record}: not done yet: this stage answers only what needs no state"
+        "the input ends inside a record, after {left} of its bytes (the length's eight among them)"
     )?.into())
 }
 
-fn cut_off(heap: Global, record: u64, left: usize) -> Result<AnyError, AnyError> {
-    Ok(format!(
-        heap,
-        "the input ends inside record {record}, after {left} of its bytes (the length's eight among them)"
-    )?.into())
-}
-
-// Answers every record of an input; records are counted from 1.
-fn serve<R: Read>(rt: &LibcRuntime, l: Limits, input: &mut R) -> Result<(), AnyError> {
-    let heap = rt.alloc();
-    let mut buf = vec![in heap; 0u8; CHUNK]?;
-    let mut out = Vec::new(heap);
+// Answers every record of an input, as many at a time as have come and as `out` has room for.
+fn serve<R: Read>(
+    rt: &LibcRuntime,
+    input: &mut R,
+    mem: &mut [u64],
+    out: &mut [u8],
+) -> Result<(), AnyError>
+    requires reached { ⌜ Reached (limits-of (now mem)) (now mem) ⌝ }
+{
+    let mut buf = vec![in rt.alloc(); 0u8; CHUNK]?;
     let mut filled = 0;
-    let mut record: u64 = 1;
     for _turn in 0..u64::MAX {
-        let now = fill(input, &mut buf, filled)?;
-        if now == filled {
+        let Taken { read, written } = run(mem, &buf[0..filled], out);
+        rt.stdout().write_all(&out[0..written])?;
+        keep(&mut buf, read, filled);
+        let left = filled - read;
+        filled = fill_if(read == 0, input, &mut buf, left)?;
+        if read == 0 && filled == left {
             break;
         }
-        let Taken {
-            used,
-            records,
-            stopped,
-        } = answer_records(l, &buf[0..now], &mut out)?;
-        rt.stdout().write_all(&out)?;
-        out.clear();
-        record = record.saturating_add(records);
-        if stopped {
-            return Err(not_yet(heap, record)?);
-        }
-        keep(&mut buf, used, now);
-        filled = now - used;
     }
     if filled > 0 {
-        Err(cut_off(heap, record, filled)?)
+        Err(cut_off(rt.alloc(), filled)?)
     } else {
         Ok(())
     }
 }
 
-fn run(rt: &LibcRuntime) -> Result<(), AnyError> {
+// Opens a server in its memory, and answers an input.
+fn open_and_serve<R: Read>(
+    rt: &LibcRuntime,
+    l: Limits,
+    input: &mut R,
+    mem: &mut [u64],
+    out: &mut [u8],
+) -> Result<(), AnyError>
+    requires good { ⌜ Good-limits serves (limits-for serves l) ⌝ }
+{
+    match open(mem, l, out.len()) {
+        Ok(()) => serve(rt, input, mem, out),
+        Err(_) => Err("the memory that it was given is too short".into()),
+    }
+}
+
+// The bytes for answers have room for the record of a longest answer, and for many short ones.
+fn start<R: Read>(rt: &LibcRuntime, l: Limits, input: &mut R) -> Result<(), AnyError>
+    requires good { ⌜ Good-limits serves (limits-for serves l) ⌝ }
+{
+    let mut mem = vec![in rt.alloc(); 0u64; memory_words(l)]?;
+    let mut out = vec![in rt.alloc(); 0u8; answer_bytes(l).saturating_add(MANY)]?;
+    open_and_serve(rt, l, input, &mut mem, &mut out)
+}
+
+fn run_with(rt: &LibcRuntime) -> Result<(), AnyError> {
     let mut args = env::args(rt)?;
     let _program = args.next();
     let (Some(servers), Some(me), Some(clients), Some(room)) = (
@@ -76,6 +99,10 @@ fn run(rt: &LibcRuntime) -> Result<(), AnyError> {
     ) else {
         return Err(USAGE.into());
     };
+    let file = args.next();
+    if args.next().is_some() {
+        return Err(USAGE.into());
+    }
     let l = match limits(
         servers.as_str(),
         me.as_str(),
@@ -85,20 +112,17 @@ fn run(rt: &LibcRuntime) -> Result<(), AnyError> {
         Ok(l) => l,
         Err(complaint) => return Err(complaint.to_string(rt.alloc())?.into()),
     };
-    let Some(path) = args.next() else {
-        return serve(rt, l, &mut rt.stdin());
+    let Some(path) = file else {
+        return start(rt, l, &mut rt.stdin());
     };
-    if args.next().is_some() {
-        return Err(USAGE.into());
-    }
     match fs::open(rt, path.as_str()) {
-        Ok(mut file) => serve(rt, l, &mut file),
+        Ok(mut file) => start(rt, l, &mut file),
         Err(e) => Err(format!(rt.alloc(), "{path}: {e}")?.into()),
     }
 }
 
 fn main(rt: LibcRuntime) -> Result<(), AnyError> {
-    match run(&rt) {
+    match run_with(&rt) {
         Ok(()) => Ok(()),
         Err(trouble) => {
             eprintln!(rt, "serve: {trouble}")?;
