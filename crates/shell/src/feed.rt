@@ -35,7 +35,12 @@ pub fn fill(input: &mut impl Read, buf: &mut Vec<u8>, filled: usize) -> io::Resu
 }
 
 // The same, if more is wanted; else what is there stays as it is.
-pub fn fill_if(wanted: bool, input: &mut impl Read, buf: &mut Vec<u8>, filled: usize) -> io::Result<usize>
+pub fn fill_if(
+    wanted: bool,
+    input: &mut impl Read,
+    buf: &mut Vec<u8>,
+    filled: usize,
+) -> io::Result<usize>
     requires { ⌜ filled ≤ vec-len (now buf) ⌝ }
     ensures { λ r. ⌜ Cases r (λ n. (filled ≤ n) × (n ≤ vec-len (now (buf .exit)))) (λ _. Unit {0}) ⌝ }
 {
