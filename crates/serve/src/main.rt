@@ -13,9 +13,10 @@ use session::run::Taken;
 use session::run::run;
 use shell::arguments::ComplaintDisplay;
 use shell::arguments::limits;
+use shell::feed::CutOffDisplay;
+use shell::feed::ended;
 use shell::feed::fill_if;
 use shell::feed::keep;
-use std::alloc::Global;
 use std::env;
 use std::error::AnyError;
 use std::fs;
@@ -27,13 +28,6 @@ const CHUNK: usize = 65_536;
 const MANY: usize = 1_048_576;
 
 const USAGE: &str = "usage: serve SERVERS ME CLIENTS ROOM [FILE]";
-
-fn cut_off(heap: Global, left: usize) -> Result<AnyError, AnyError> {
-    Ok(format!(
-        heap,
-        "the input ends inside a record, after {left} of its bytes (the length's eight among them)"
-    )?.into())
-}
 
 // Answers every record of an input, as many at a time as have come and as `out` has room for.
 fn serve<R: Read>(
@@ -56,10 +50,9 @@ fn serve<R: Read>(
             break;
         }
     }
-    if filled > 0 {
-        Err(cut_off(rt.alloc(), filled)?)
-    } else {
-        Ok(())
+    match ended(filled) {
+        Ok(()) => Ok(()),
+        Err(cut_off) => Err(cut_off.to_string(rt.alloc())?.into()),
     }
 }
 

@@ -4,7 +4,11 @@ ghost use mathlib.Core.List.{List, _++_};
 ghost use Prim.Native.Nat.{ℕ, _+_, _-_, _≤_};
 ghost use lib.ListN.{length, take, drop};
 ghost use Rattle.std.specs.Of.Vec.{vec-len};
+ghost use lib.Dec.{eqb};
 ghost use Rattle.std.specs.Results.{Cases};
+ghost use Rattle.std.specs.declared.result.Result.the-variants.{Ok, Err};
+ghost use Rattle.servers.specs.Store.{pick};
+use std::fmt;
 use std::io;
 use std::io::Read;
 
@@ -48,5 +52,56 @@ pub fn fill_if(
         fill(input, buf, filled)
     } else {
         Ok(filled)
+    }
+}
+
+// An input ended inside a record: how many of its bytes had come, the length's eight among them.
+#[derive(Clone, Copy, PartialEq, Eq, Debug)]
+pub struct CutOff {
+    pub left: usize,
+}
+
+pub impl fmt::Display for CutOff as CutOffDisplay {
+    fn fmt<W: fmt::Write>(&self, f: &mut fmt::Formatter<W>) -> fmt::Result {
+        let left = self.left;
+        write!(
+            f,
+            "the input ends inside a record, after {left} of its bytes (the length's eight among them)"
+        )
+    }
+}
+
+// What an input that has ended leaves behind its last whole record: nothing, or a record that is cut off.
+pub fn ended(left: usize) -> Result<(), CutOff>
+    ensures { λ r. ⌜ r ≡ pick (eqb left 0) (Ok tt) (Err (record { left = left })) ⌝ }
+{
+    if left == 0 {
+        Ok(())
+    } else {
+        Err(CutOff { left })
+    }
+}
+
+#[cfg(test)]
+mod tests {
+    use super::*;
+    use std::test::*;
+
+    #[test]
+    fn the_rest_moves_to_the_front() -> Result<(), Fail> {
+        let mut buf = *b"abcdefgh";
+        keep(&mut buf, 3, 6);
+        check_eq(&buf[0..3], b"def")
+    }
+
+    #[test]
+    fn an_input_that_ends_inside_a_record(rt: LibcRuntime) -> Result<(), Fail> {
+        check(ended(0).is_ok())?;
+        let Err(e) = ended(30) else {
+            return Err(Fail::new("no complaint"));
+        };
+        let says =
+            "the input ends inside a record, after 30 of its bytes (the length's eight among them)";
+        check_eq(e.to_string(rt.alloc())?.as_str(), says)
     }
 }
