@@ -3,11 +3,11 @@ use Rattle.state.specs.Held.{state_of}
 use Rattle.apply.proofs.Going.{going_room, going_on, last_turns, last_bytes, last_count}
 use Rattle.apply.proofs.all.apply_all.Goals as goal
 
-pub apply-next-told-requires : goal.apply-next-told-requires
-apply-next-told-requires c =
+pub apply_next-told-requires : goal.apply_next-told-requires
+apply_next-told-requires c =
     let m₀ : List ℕ = c.args.mem.now in
     let g = c.loop-index.invariant in
-    let to = c.due-to-to.ensures in
+    let to = c.due_to-to.ensures in
     let test = c.loop-index-test.true in
     let more : c.loop-index.index < min (state_of m₀).commit (length (state_of m₀).log) = omega arith in
     let here = g.here in
@@ -25,13 +25,13 @@ apply-next-told-requires c =
 pub loop-index-preserved : goal.loop-index-preserved
 loop-index-preserved c =
     let m₀ : List ℕ = c.args.mem.now in
-    let to = c.due-to-to.ensures in
+    let to = c.due_to-to.ensures in
     let test = c.loop-index-test.true in
     let more : c.loop-index.index < min (state_of m₀).commit (length (state_of m₀).log) = omega arith in
-    let r = c.apply-next-told.ensures in
+    let r = c.apply_next-told.ensures in
     going_on m₀ c.args.out.now c.args.at c.loop-index.mem c.loop-index.out c.loop-index.index
-    c.loop-index.told.count c.loop-index.told.next c.loop-index.invariant more c.apply-next-told.new.mem
-    c.apply-next-told.new.out c.apply-next-told.result.count c.apply-next-told.result.next r.turns r.bytes r.count
+    c.loop-index.told.count c.loop-index.told.next c.loop-index.invariant more c.apply_next-told.new.mem
+    c.apply_next-told.new.out c.apply_next-told.result.count c.apply_next-told.result.next r.turns r.bytes r.count
 
 pub returns : goal.returns
 returns c =
@@ -44,7 +44,7 @@ returns c =
     let count : ℕ = c.loop-index.told.count in
     let next : ℕ = c.loop-index.told.next in
     let g = c.loop-index.invariant in
-    let to = c.due-to-to.ensures in
+    let to = c.due_to-to.ensures in
     let test = c.loop-index-test.false in
     let done : min (state_of m₀).commit (length (state_of m₀).log) ≤ index = omega arith in
     record {

@@ -11,15 +11,15 @@ use Rattle.apply.proofs.all.apply_next.Goals as goal
 pub tell-requires : goal.tell-requires
 tell-requires c =
     let m : List ℕ = c.args.mem.now in
-    let m₂ : List ℕ = c.do-one.new.mem in
+    let m₂ : List ℕ = c.do_one.new.mem in
     let i : ℕ = c.args.index in
     let k : ℕ = c.in-Some.client in
-    let b = c.set-applied.ensures in
+    let b = c.set_applied.ensures in
     let next = c.requires.next in
     let room = c.requires.room in
-    let t = next_turns m c.set-applied.new.mem i c.requires.held b m₂ c.do-one.ensures.turns in
+    let t = next_turns m c.set_applied.new.mem i c.requires.held b m₂ c.do_one.ensures.turns in
     let e = sym c.in-Some.is
-    ∙ (c.do-one.ensures.told ∙ ap told_client (same_told m c.set-applied.new.mem i c.requires.held b)) in
+    ∙ (c.do_one.ensures.told ∙ ap told_client (same_told m c.set_applied.new.mem i c.requires.held b)) in
     let x = next_told m m₂ i k c.requires.held (omega arith) c.requires.there t e in
     let same = ap length (ap write_saids x.1 ∙ one_said (kept_for k (session (state_of m₂) k))) in
     record { held = t.held; there = x.0; room = omega arith }
@@ -27,14 +27,14 @@ tell-requires c =
 pub returns-in-Some : goal.returns-in-Some
 returns-in-Some c =
     let m : List ℕ = c.args.mem.now in
-    let m₂ : List ℕ = c.do-one.new.mem in
+    let m₂ : List ℕ = c.do_one.new.mem in
     let i : ℕ = c.args.index in
     let k : ℕ = c.in-Some.client in
-    let b = c.set-applied.ensures in
+    let b = c.set_applied.ensures in
     let next = c.requires.next in
-    let t = next_turns m c.set-applied.new.mem i c.requires.held b m₂ c.do-one.ensures.turns in
+    let t = next_turns m c.set_applied.new.mem i c.requires.held b m₂ c.do_one.ensures.turns in
     let e = sym c.in-Some.is
-    ∙ (c.do-one.ensures.told ∙ ap told_client (same_told m c.set-applied.new.mem i c.requires.held b)) in
+    ∙ (c.do_one.ensures.told ∙ ap told_client (same_told m c.set_applied.new.mem i c.requires.held b)) in
     let x = next_told m m₂ i k c.requires.held (omega arith) c.requires.there t e in
     let one = ap length x.1 in
     record {
@@ -48,13 +48,13 @@ unfolding write_saids
 returns-in-None c =
     let m : List ℕ = c.args.mem.now in
     let i : ℕ = c.args.index in
-    let b = c.set-applied.ensures in
+    let b = c.set_applied.ensures in
     let room = c.requires.room in
     let none = told_none (limits_of m) (state_of m) (entry_of m i) (sym c.in-None.is
-    ∙ (c.do-one.ensures.told ∙ ap told_client (same_told m c.set-applied.new.mem i c.requires.held b))) in
+    ∙ (c.do_one.ensures.told ∙ ap told_client (same_told m c.set_applied.new.mem i c.requires.held b))) in
     let zero = ap length none in
     record {
-      turns = next_turns m c.set-applied.new.mem i c.requires.held b c.do-one.new.mem c.do-one.ensures.turns;
+      turns = next_turns m c.set_applied.new.mem i c.requires.held b c.do_one.new.mem c.do_one.ensures.turns;
       bytes = writes_as (sym (ap write_saids none)) (writes_none c.args.told.next c.args.out.now (omega arith));
       count = omega arith;
     }

@@ -7,7 +7,7 @@ use Rattle.apply.proofs.one.command_at.Goals as goal
 pub returns : goal.returns
 returns c =
     let i : ℕ = c.args.index in
-    let ws : List ℕ = c.command-at.result.now in
-    let e = c.command-at.ensures ∙ ap (λ (z : List ℕ). drop 4 (row_at i z)) c.log-part.ensures.rows in
+    let ws : List ℕ = c.command_at.result.now in
+    let e = c.command_at.ensures ∙ ap (λ (z : List ℕ). drop 4 (row_at i z)) c.log_part.ensures.rows in
     let x = command_held c.args.mem.now ws i c.requires.held c.requires.some c.requires.there e in
     record { command = x.0; long = command_long ws x.0; value = x.1 }

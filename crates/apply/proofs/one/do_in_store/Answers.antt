@@ -8,18 +8,18 @@ use Rattle.state.specs.Held.{state_of}
 use Rattle.apply.proofs.Doing.{region_lent, region_held, region_room, stored, reply_read}
 use Rattle.apply.proofs.one.do_in_store.Goals as goal
 
-pub slice-bounds-do-command-count : goal.slice-bounds-do-command-count
-slice-bounds-do-command-count c = let z = long c.args.mem.now c.requires.held in let at = c.store-at-at.ensures in omega arith
+pub slice_bounds-do_command-count : goal.slice_bounds-do_command-count
+slice_bounds-do_command-count c = let z = long c.args.mem.now c.requires.held in let at = c.store_at-at.ensures in omega arith
 
-pub slice-bounds-do-command-start : goal.slice-bounds-do-command-start
-slice-bounds-do-command-start c = let z = long c.args.mem.now c.requires.held in let at = c.store-at-at.ensures in omega arith
+pub slice_bounds-do_command-start : goal.slice_bounds-do_command-start
+slice_bounds-do_command-start c = let z = long c.args.mem.now c.requires.held in let at = c.store_at-at.ensures in omega arith
 
-pub do-command-requires : goal.do-command-requires
-do-command-requires c =
+pub do_command-requires : goal.do_command-requires
+do_command-requires c =
     let m : List ℕ = c.args.mem.now in
-    let at : ℕ = c.store-at-at.result in
+    let at : ℕ = c.store_at-at.result in
     let r : List ℕ = take (length m - at) (drop at m) in
-    let e = region_lent m at c.store-at-at.ensures in
+    let e = region_lent m at c.store_at-at.ensures in
     record {
       ready = record { held = region_held m r c.requires.held e; after_wide = c.requires.after; before_wide = c.requires.before };
       room = region_room m r c.requires.held e c.requires.few;
@@ -29,19 +29,19 @@ do-command-requires c =
 pub returns : goal.returns
 returns c =
     let m : List ℕ = c.args.mem.now in
-    let at : ℕ = c.store-at-at.result in
+    let at : ℕ = c.store_at-at.result in
     let r : List ℕ = take (length m - at) (drop at m) in
     let x : Command = command_in c.args.command.now in
-    let p = c.store-at-at.ensures in
+    let p = c.store_at-at.ensures in
     let e = region_lent m at p in
     let z = long m c.requires.held in
-    let d = c.do-command.ensures in
-    let read = reply_read x (state_of m).store c.do-command.new.after c.do-command.new.before c.requires.command.good
+    let d = c.do_command.ensures in
+    let read = reply_read x (state_of m).store c.do_command.new.after c.do_command.new.before c.requires.command.good
     c.requires.held.fits.3.items
     (d.after ∙ ap (λ (y : List ℕ). perhaps_words 32 (reply x (items_of y)).now) e)
     (d.before ∙ ap (λ (y : List ℕ). perhaps_words 32 (reply x (items_of y)).old) e) in
     record {
-      turns = stored m x r c.do-command.new.region c.do-command.new.after c.do-command.new.before at (length m - at)
+      turns = stored m x r c.do_command.new.region c.do_command.new.after c.do_command.new.before at (length m - at)
           c.requires.held e p (omega arith) c.requires.few c.requires.command.good d;
       after = read.0;
       before = read.1;

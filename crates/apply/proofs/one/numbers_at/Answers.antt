@@ -7,8 +7,8 @@ use Rattle.apply.proofs.one.numbers_at.Goals as goal
 pub returns : goal.returns
 returns c =
     record {
-      value = c.numbers-at.ensures
-          ∙ ap (λ (z : List ℕ). numbers_of (entry_in c.args.index z)) c.log-part.ensures.rows;
-      client = client_held c.args.mem.now c.log-part.result.now c.args.index c.numbers-at.result c.requires.held
-          c.requires.some c.requires.there c.log-part.ensures.rows c.numbers-at.ensures;
+      value = c.numbers_at.ensures
+          ∙ ap (λ (z : List ℕ). numbers_of (entry_in c.args.index z)) c.log_part.ensures.rows;
+      client = client_held c.args.mem.now c.log_part.result.now c.args.index c.numbers_at.result c.requires.held
+          c.requires.some c.requires.there c.log_part.ensures.rows c.numbers_at.ensures;
     }

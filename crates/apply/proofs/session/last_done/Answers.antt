@@ -7,15 +7,15 @@ use Rattle.apply.proofs.session.last_done.Goals as goal
 
 pub bounds-kept-0 : goal.bounds-kept-0
 bounds-kept-0 c =
-    let l = ap length c.session-part-kept.ensures ∙ length_cached (session (state_of c.args.mem.now) c.args.client) in
+    let l = ap length c.session_part-kept.ensures ∙ length_cached (session (state_of c.args.mem.now) c.args.client) in
     omega arith
 
 pub bounds-kept-1 : goal.bounds-kept-1
 bounds-kept-1 c =
-    let l = ap length c.session-part-kept.ensures ∙ length_cached (session (state_of c.args.mem.now) c.args.client) in
+    let l = ap length c.session_part-kept.ensures ∙ length_cached (session (state_of c.args.mem.now) c.args.client) in
     omega arith
 
 pub returns : goal.returns
 returns c =
-    last_words (session (state_of c.args.mem.now) c.args.client) c.session-part-kept.result.now
-    c.session-part-kept.ensures
+    last_words (session (state_of c.args.mem.now) c.args.client) c.session_part-kept.result.now
+    c.session_part-kept.ensures

@@ -9,11 +9,11 @@ use Rattle.apply.specs.Applied.{session, kept_for}
 use Rattle.apply.proofs.Sessions.{session_good, session_back, now_low, old_low}
 use Rattle.apply.proofs.tell.tell.Goals as goal
 
-pub write-session-requires : goal.write-session-requires
-write-session-requires c =
+pub write_session-requires : goal.write_session-requires
+write_session-requires c =
     let x : Cached = session (state_of c.args.mem.now) c.args.client in
     let g = session_good c.args.mem.now c.args.client c.requires.held in
-    let e = c.session-part.ensures in
+    let e = c.session_part.ensures in
     record {
       size = ap length e ∙ length_cached x;
       after = subst (λ (z : List ℕ). get_or z 2 0 ≤ 257) (sym e) (now_low x g);
@@ -26,5 +26,5 @@ pub returns : goal.returns
 returns c =
     let x : Cached = session (state_of c.args.mem.now) c.args.client in
     let g = session_good c.args.mem.now c.args.client c.requires.held in
-    writes_as (ap (λ (y : Cached). write_said (kept_for c.args.client y)) (ap cached_in c.session-part.ensures ∙ session_back x g))
-    c.write-session.ensures
+    writes_as (ap (λ (y : Cached). write_said (kept_for c.args.client y)) (ap cached_in c.session_part.ensures ∙ session_back x g))
+    c.write_session.ensures

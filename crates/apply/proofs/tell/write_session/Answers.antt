@@ -6,8 +6,8 @@ use Rattle.raft_log.proofs.Rooms.{room_first, room_next}
 use Rattle.apply.proofs.Telling.{reply_bytes, session_bytes, room_said, part_long, part_first}
 use Rattle.apply.proofs.tell.write_session.Goals as goal
 
-pub write-number-number-requires : goal.write-number-number-requires
-write-number-number-requires c =
+pub write_number-number-requires : goal.write_number-number-requires
+write_number-number-requires c =
     let ws : List ℕ = c.args.kept.now in
     let rest : List ℕ = write_number (get_or ws 1 0) ++ (reply_bytes 2 ws ++ reply_bytes 35 ws) in
     let whole = room_said c.args.client c.args.at (length c.args.out.now) ws c.requires.room in
@@ -15,19 +15,19 @@ write-number-number-requires c =
     let l = length_number c.args.client in
     omega arith
 
-pub write-number-after-requires : goal.write-number-after-requires
-write-number-after-requires c =
+pub write_number-after-requires : goal.write_number-after-requires
+write_number-after-requires c =
     let ws : List ℕ = c.args.kept.now in
     let replies : List ℕ = reply_bytes 2 ws ++ reply_bytes 35 ws in
     let whole = room_said c.args.client c.args.at (length c.args.out.now) ws c.requires.room in
-    let room = room_first (write_number (get_or ws 1 0)) replies c.write-number-number.result
-    (length c.write-number-number.new.out)
-    (room_next (write_number (get_or ws 1 0) ++ replies) whole c.write-number-number.ensures.bytes) in
+    let room = room_first (write_number (get_or ws 1 0)) replies c.write_number-number.result
+    (length c.write_number-number.new.out)
+    (room_next (write_number (get_or ws 1 0) ++ replies) whole c.write_number-number.ensures.bytes) in
     let l = length_number (get_or ws 1 0) in
     omega arith
 
-pub write-perhaps-in-before-requires : goal.write-perhaps-in-before-requires
-write-perhaps-in-before-requires c =
+pub write_perhaps_in-before-requires : goal.write_perhaps_in-before-requires
+write_perhaps_in-before-requires c =
     let ws : List ℕ = c.args.kept.now in
     let replies : List ℕ = reply_bytes 2 ws ++ reply_bytes 35 ws in
     let whole = room_said c.args.client c.args.at (length c.args.out.now) ws c.requires.room in
@@ -38,13 +38,13 @@ write-perhaps-in-before-requires c =
     record {
       some = omega arith;
       sound = omega arith;
-      room = room_first (reply_bytes 2 ws) (reply_bytes 35 ws) c.write-number-after.result (length c.write-number-after.new.out)
-          (room_next replies (room_next (write_number (get_or ws 1 0) ++ replies) whole c.write-number-number.ensures.bytes)
-          c.write-number-after.ensures.bytes);
+      room = room_first (reply_bytes 2 ws) (reply_bytes 35 ws) c.write_number-after.result (length c.write_number-after.new.out)
+          (room_next replies (room_next (write_number (get_or ws 1 0) ++ replies) whole c.write_number-number.ensures.bytes)
+          c.write_number-after.ensures.bytes);
     }
 
-pub write-perhaps-in-requires : goal.write-perhaps-in-requires
-write-perhaps-in-requires c =
+pub write_perhaps_in-requires : goal.write_perhaps_in-requires
+write_perhaps_in-requires c =
     let ws : List ℕ = c.args.kept.now in
     let replies : List ℕ = reply_bytes 2 ws ++ reply_bytes 35 ws in
     let whole = room_said c.args.client c.args.at (length c.args.out.now) ws c.requires.room in
@@ -56,14 +56,14 @@ write-perhaps-in-requires c =
       some = omega arith;
       sound = omega arith;
       room = room_next (reply_bytes 35 ws)
-          (room_next replies (room_next (write_number (get_or ws 1 0) ++ replies) whole c.write-number-number.ensures.bytes)
-          c.write-number-after.ensures.bytes)
-          c.write-perhaps-in-before.ensures;
+          (room_next replies (room_next (write_number (get_or ws 1 0) ++ replies) whole c.write_number-number.ensures.bytes)
+          c.write_number-after.ensures.bytes)
+          c.write_perhaps_in-before.ensures;
     }
 
 pub returns : goal.returns
 returns c =
     writes_as (session_bytes c.args.client c.args.kept.now)
-    (writes_then c.write-number-number.ensures.bytes
-    (writes_then c.write-number-after.ensures.bytes
-    (writes_then c.write-perhaps-in-before.ensures c.write-perhaps-in.ensures)))
+    (writes_then c.write_number-number.ensures.bytes
+    (writes_then c.write_number-after.ensures.bytes
+    (writes_then c.write_perhaps_in-before.ensures c.write_perhaps_in.ensures)))

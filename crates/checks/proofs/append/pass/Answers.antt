@@ -11,23 +11,23 @@ loop-rest-init c = (c.requires, refl)
 
 pub loop-rest-preserved : goal.loop-rest-preserved
 loop-rest-preserved c =
-    let n = c.next-entry.ensures in
-    let next = c.next-entry.result in (
+    let n = c.next_entry.ensures in
+    let next = c.next_entry.result in (
       n.rest,
       turn_passed can_do c.args.l c.args.b.now c.args.before c.loop-rest.row c.stands-row.result c.loop-rest.rest
-          next.1 next.0 c.in-ok-entry.entry n.entry n.rest n.value c.loop-rest-test.true n.count
-          c.in-ok-entry.ensures c.stands-row.ensures
+          next.1 next.0 c.in_ok-entry.entry n.entry n.rest n.value c.loop-rest-test.true n.count
+          c.in_ok-entry.ensures c.stands-row.ensures
           ∙ c.loop-rest.invariant.1,
     )
 
-pub returns-in-err-entry : goal.returns-in-err-entry
-returns-in-err-entry c =
-    let n = c.next-entry.ensures in
+pub returns-in_err-entry : goal.returns-in_err-entry
+returns-in_err-entry c =
+    let n = c.next_entry.ensures in
     let bs = c.args.b.now in
     let rest = c.loop-rest.rest in
     c.from-residual.ensures
     ∙ sym (turn_refused can_do c.args.l bs (c.loop-rest.row && in_a_row c.args.before (entries_of bs rest)) rest
-    c.next-entry.result.1 c.next-entry.result.0 n.entry n.value c.in-err-entry.ensures)
+    c.next_entry.result.1 c.next_entry.result.0 n.entry n.value c.in_err-entry.ensures)
     ∙ c.loop-rest.invariant.1
 
 pub returns : goal.returns

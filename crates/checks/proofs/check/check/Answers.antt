@@ -13,8 +13,8 @@ returns-in-Request c =
     let h = rw c.in-Request.is at c.requires in
     let e = Request q.client q.id q.command in
     rw c.in-Request.is
-    (checked_from (limits_of can_do c.args.l) c.args.b.now e c.check-request.result h
-    (c.check-request.ensures
+    (checked_from (limits_of can_do c.args.l) c.args.b.now e c.check_request.result h
+    (c.check_request.ensures
     ∙ ap (λ z. ordered (ltb q.client c.args.l.clients && z) true e) (sym (brief_means c.args.b.now q.command h))))
 
 pub returns-in-Comes : goal.returns-in-Comes
@@ -22,4 +22,4 @@ returns-in-Comes c =
     let h = rw c.in-Comes.is at c.requires in
     rw c.in-Comes.is
     (checked_from (limits_of can_do c.args.l) c.args.b.now (Comes c.in-Comes.from c.in-Comes.message)
-    c.check-comes.result h c.check-comes.ensures)
+    c.check_comes.result h c.check_comes.ensures)

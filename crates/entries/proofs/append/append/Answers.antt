@@ -12,16 +12,16 @@ use Rattle.entries.proofs.Taking.{appends_is, reply_is, before_low, taken_is}
 abbrev letter : ℕ → Message → Letter
 letter h x = record { to = h; message = x }
 
-pub extend-by-new-requires : goal.extend-by-new-requires
-extend-by-new-requires c =
+pub extend_by_new-requires : goal.extend_by_new-requires
+extend_by_new-requires c =
     let s : State = state_of c.args.mem.now in
     record {
       held = c.requires.held;
       low = c.requires.commit;
-      within = before_low s c.args.term c.args.before c.args.before-term c.requires.held.fits.1.row
+      within = before_low s c.args.term c.args.before c.args.before_term c.requires.held.fits.1.row
           (sym c.accepts-taken.ensures ∙ c.if-not-taken.false);
       can = c.requires.can;
-      last = c.last-of-last.ensures;
+      last = c.last_of-last.ensures;
     }
 
 pub returns : goal.returns
@@ -32,18 +32,18 @@ returns c =
     let h : ℕ = c.args.from in
     let t : ℕ = c.args.term in
     let i : ℕ = c.args.before in
-    let u : ℕ = c.args.before-term in
+    let u : ℕ = c.args.before_term in
     let k : ℕ = c.args.commit in
-    let m₁ : List ℕ = c.extend-by-new.new.mem in
-    let m₂ : List ℕ = c.follow-leader.new.mem in
+    let m₁ : List ℕ = c.extend_by_new.new.mem in
+    let m₂ : List ℕ = c.follow_leader.new.mem in
     let yes : accepts s t i u ≡ true = sym c.accepts-taken.ensures ∙ c.if-not-taken.false in
     let whole : following h (advanced t (extended_if (has_new s es) s i es k)) ≡ appends s h t i u es k =
     taken_is s h t i es k ∙ sym (appends_is s h t i u es k c.requires.held.fits.1.row ∙ pick_true _ _ _ yes) in
-    let says : append_reply s t i u es ≡ appended t c.last-of-last.result.index true =
-    reply_is s t i u es ∙ (pick_true _ _ _ yes ∙ ap (λ (x : Last). appended t x.index true) (sym c.last-of-last.ensures)) in
+    let says : append_reply s t i u es ≡ appended t c.last_of-last.result.index true =
+    reply_is s t i u es ∙ (pick_true _ _ _ yes ∙ ap (λ (x : Last). appended t x.index true) (sym c.last_of-last.ensures)) in
     record {
       state = said m m₂ _ _ whole
           (next_then (λ l x. following h (advanced t x)) m m₁ m₂ (extended_if (has_new s es) s i es k)
-          c.extend-by-new.ensures c.follow-leader.ensures);
+          c.extend_by_new.ensures c.follow_leader.ensures);
       reply = ap (λ (x : Message). letter h x ∷ []) says;
     }

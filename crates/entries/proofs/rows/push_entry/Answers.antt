@@ -8,10 +8,10 @@ use Rattle.state.proofs.Laws.{long}
 use Rattle.entries.proofs.rows.push_entry.Goals as goal
 use Rattle.entries.proofs.Logs.{lent, last_long, push_written}
 
-pub slice-bounds-push-end : goal.slice-bounds-push-end
-slice-bounds-push-end c =
+pub slice_bounds-push-end : goal.slice_bounds-push-end
+slice_bounds-push-end c =
     let z = long c.args.mem.now c.requires.held in
-    let at = c.log-at-at.ensures in
+    let at = c.log_at-at.ensures in
     let room = ap (λ (x : Limits). x.room) c.limits.ensures in
     omega arith
 
@@ -19,13 +19,13 @@ pub returns : goal.returns
 returns c =
     let m : List ℕ = c.args.mem.now in
     let s : State = state_of m in
-    let at : ℕ = c.log-at-at.result in
+    let at : ℕ = c.log_at-at.result in
     let size : ℕ = at + 80 * c.limits.result.room - at in
     let room : c.limits.result.room ≡ room_in m = ap (λ (x : Limits). x.room) c.limits.ensures in
     let wide : size ≡ 80 * room_in m = omega arith in
-    let last = c.last-index-len.ensures.last in
+    let last = c.last_index-len.ensures.last in
     let is = last_long m c.requires.held in
     push_written m c.push.new.region c.args.numbers (command_of c.args.b.now c.args.command)
-    (c.last-index-len.result + 1) at size c.requires.held c.log-at-at.ensures wide (omega arith) c.requires.room c.requires.good
+    (c.last_index-len.result + 1) at size c.requires.held c.log_at-at.ensures wide (omega arith) c.requires.room c.requires.good
     (c.push.ensures (room_in m) (suc (last_index s.log)) s.log (omega arith)
-    (lent m at size c.requires.held c.log-at-at.ensures wide))
+    (lent m at size c.requires.held c.log_at-at.ensures wide))

@@ -8,10 +8,10 @@ use Rattle.state.proofs.Laws.{long}
 use Rattle.entries.proofs.rows.replace_entries.Goals as goal
 use Rattle.entries.proofs.Logs.{count_is, lent, last_long, replace_written}
 
-pub slice-bounds-replace-end : goal.slice-bounds-replace-end
-slice-bounds-replace-end c =
+pub slice_bounds-replace-end : goal.slice_bounds-replace-end
+slice_bounds-replace-end c =
     let z = long c.args.mem.now c.requires.held in
-    let at = c.log-at-at.ensures in
+    let at = c.log_at-at.ensures in
     let room = ap (λ (x : Limits). x.room) c.limits.ensures in
     omega arith
 
@@ -20,16 +20,16 @@ returns c =
     let m : List ℕ = c.args.mem.now in
     let s : State = state_of m in
     let g = c.requires.held.fits.1 in
-    let at : ℕ = c.log-at-at.result in
+    let at : ℕ = c.log_at-at.result in
     let size : ℕ = at + 80 * c.limits.result.room - at in
     let room : c.limits.result.room ≡ room_in m = ap (λ (x : Limits). x.room) c.limits.ensures in
     let wide : size ≡ 80 * room_in m = omega arith in
-    let last = c.last-index-len.ensures.last in
-    let low = c.last-index-len.ensures.low in
+    let last = c.last_index-len.ensures.last in
+    let low = c.last_index-len.ensures.low in
     let is = last_long m c.requires.held in
     let count = count_is c.args.b.now c.args.entries c.requires.can.there in
     replace_written m c.replace.new.region c.args.before (entries_of c.args.b.now c.args.entries)
-    (c.args.before + c.args.entries.count) at size c.requires.held c.log-at-at.ensures wide (omega arith) c.requires.within
+    (c.args.before + c.args.entries.count) at size c.requires.held c.log_at-at.ensures wide (omega arith) c.requires.within
     c.requires.can.room c.requires.can.row c.requires.can.good
     (c.replace.ensures (room_in m) s.log (omega arith) g.row (omega arith)
-    (lent m at size c.requires.held c.log-at-at.ensures wide))
+    (lent m at size c.requires.held c.log_at-at.ensures wide))

@@ -15,12 +15,12 @@ use Rattle.server.specs.Reached.{Reached}
 use Rattle.group.proofs.Playing.{reached, its_limits, ends, few, answer_long, part_within, played, came_part}
 use Rattle.group.proofs.happen.come.Goals as goal
 
-pub overflow-sub-events : goal.overflow-sub-events
-overflow-sub-events c =
+pub overflow_sub-events : goal.overflow_sub-events
+overflow_sub-events c =
     let j = c.requires.playing.journals in ends c.args.kept.events c.args.events.now (events_of j.kept) j.events_end j.events_are
 
-pub overflow-sub-answers : goal.overflow-sub-answers
-overflow-sub-answers c =
+pub overflow_sub-answers : goal.overflow_sub-answers
+overflow_sub-answers c =
     let j = c.requires.playing.journals in
     ends c.args.kept.answers c.args.answers.now (answers_of j.kept) j.answers_end j.answers_are
 
@@ -45,16 +45,16 @@ turn-answer-requires c =
       room = omega arith;
     }
 
-pub overflow-add-result : goal.overflow-add-result
-overflow-add-result c =
+pub overflow_add-result : goal.overflow_add-result
+overflow_add-result c =
     let j = c.requires.playing.journals in
     let n = few c.args.kept.happenings c.args.kept.events c.args.kept.answers c.args.events.now c.args.answers.now j in
     let room = c.if-events-kept.false in
     let used = ends c.args.kept.events c.args.events.now (events_of j.kept) j.events_end j.events_are in
     omega arith
 
-pub overflow-add-len : goal.overflow-add-len
-overflow-add-len c =
+pub overflow_add-len : goal.overflow_add-len
+overflow_add-len c =
     let j = c.requires.playing.journals in
     let used = ends c.args.kept.answers c.args.answers.now (answers_of j.kept) j.answers_end j.answers_are in
     let within = c.requires.within in
@@ -70,13 +70,13 @@ returns-then-events-kept c =
     let free = c.if-events-kept.true in
     (omega arith, refl, refl, refl)
 
-pub overflow-add-result-2 : goal.overflow-add-result-2
-overflow-add-result-2 c =
+pub overflow_add-result-2 : goal.overflow_add-result-2
+overflow_add-result-2 c =
     let t = c.turn-answer.ensures in
     let low = t.fits in
-    let bs : List ℕ = take (c.put-coming-end.result - (c.args.kept.events + 9))
-    (drop (c.args.kept.events + 9) c.put-coming-end.new.events) in
-    let e = c.answer-bytes.ensures ∙ (ap answer_length t.answer_is
+    let bs : List ℕ = take (c.put_coming-end.result - (c.args.kept.events + 9))
+    (drop (c.args.kept.events + 9) c.put_coming-end.new.events) in
+    let e = c.answer_bytes.ensures ∙ (ap answer_length t.answer_is
     ∙ answer_long (says serves (part c.args.g.words c.args.server c.args.mems.now) (read_event bs))) in
     omega arith
 
@@ -87,15 +87,15 @@ returns c =
     let i : ℕ = c.args.server in
     let ys : List ℕ = c.args.answers.now in
     let xs : List ℕ = c.args.events.now in
-    let xs' : List ℕ = c.put-coming-end.new.events in
-    let to : ℕ = c.put-coming-end.result in
+    let xs' : List ℕ = c.put_coming-end.new.events in
+    let to : ℕ = c.put_coming-end.result in
     let start : ℕ = c.args.start in
     let bs : List ℕ = message_coming c.args.from start c.args.len ys in
     let n : start + c.args.len - start ≡ c.args.len = omega arith in
     let j = c.requires.playing.journals in
     let put : Writes k.events (write_came i bs) xs xs' to =
     subst (λ (z : ℕ). Writes k.events (write_came i (message_coming c.args.from start z ys)) xs xs' to) n
-    c.put-coming-end.ensures.bytes in
+    c.put_coming-end.ensures.bytes in
     let used = ends k.events xs (events_of j.kept) j.events_end j.events_are in
     let e = came_part k.events i to bs xs xs' used put in
     let turned : Turned p.words i k.answers bs c.args.mems.now ys c.turn-answer.new.mems
@@ -103,4 +103,4 @@ returns c =
     c.turn-answer.new.answers c.turn-answer.result) e c.turn-answer.ensures in
     played p k _ i to bs c.args.mems.now xs ys c.turn-answer.new.mems xs' c.turn-answer.new.answers
     c.turn-answer.result c.requires.playing c.requires.there turned.event c.requires.can put turned (omega arith) refl
-    (ap (λ (z : ℕ). k.answers + z) c.answer-bytes.ensures)
+    (ap (λ (z : ℕ). k.answers + z) c.answer_bytes.ensures)

@@ -12,12 +12,12 @@ use Rattle.server.specs.Reached.{Reached}
 use Rattle.group.proofs.Playing.{reached, its_limits, ends, few, answer_long, part_within, played}
 use Rattle.group.proofs.happen.happen.Goals as goal
 
-pub overflow-sub-events : goal.overflow-sub-events
-overflow-sub-events c =
+pub overflow_sub-events : goal.overflow_sub-events
+overflow_sub-events c =
     let j = c.requires.playing.journals in ends c.args.kept.events c.args.events.now (events_of j.kept) j.events_end j.events_are
 
-pub overflow-sub-answers : goal.overflow-sub-answers
-overflow-sub-answers c =
+pub overflow_sub-answers : goal.overflow_sub-answers
+overflow_sub-answers c =
     let j = c.requires.playing.journals in
     ends c.args.kept.answers c.args.answers.now (answers_of j.kept) j.answers_end j.answers_are
 
@@ -42,26 +42,26 @@ turn-answer-requires c =
       room = omega arith;
     }
 
-pub overflow-add-result : goal.overflow-add-result
-overflow-add-result c =
+pub overflow_add-result : goal.overflow_add-result
+overflow_add-result c =
     let j = c.requires.playing.journals in
     let n = few c.args.kept.happenings c.args.kept.events c.args.kept.answers c.args.events.now c.args.answers.now j in
     let room = c.if-events-kept.false in
     let used = ends c.args.kept.events c.args.events.now (events_of j.kept) j.events_end j.events_are in
     omega arith
 
-pub overflow-add-result-2 : goal.overflow-add-result-2
-overflow-add-result-2 c =
+pub overflow_add-result-2 : goal.overflow_add-result-2
+overflow_add-result-2 c =
     let t = c.turn-answer.ensures in
     let low = t.fits in
-    let e = c.answer-bytes.ensures ∙ (ap answer_length t.answer_is
+    let e = c.answer_bytes.ensures ∙ (ap answer_length t.answer_is
     ∙ answer_long (says serves (part c.args.g.words c.args.server c.args.mems.now) (read_event c.args.event.now))) in
     omega arith
 
 pub returns : goal.returns
 returns c =
-    played c.args.g c.args.kept _ c.args.server c.put-came-end.result c.args.event.now c.args.mems.now
-    c.args.events.now c.args.answers.now c.turn-answer.new.mems c.put-came-end.new.events
+    played c.args.g c.args.kept _ c.args.server c.put_came-end.result c.args.event.now c.args.mems.now
+    c.args.events.now c.args.answers.now c.turn-answer.new.mems c.put_came-end.new.events
     c.turn-answer.new.answers c.turn-answer.result c.requires.playing c.requires.there
-    c.turn-answer.ensures.event c.requires.can c.put-came-end.ensures.bytes
-    c.turn-answer.ensures (omega arith) refl (ap (λ (n : ℕ). c.args.kept.answers + n) c.answer-bytes.ensures)
+    c.turn-answer.ensures.event c.requires.can c.put_came-end.ensures.bytes
+    c.turn-answer.ensures (omega arith) refl (ap (λ (n : ℕ). c.args.kept.answers + n) c.answer_bytes.ensures)

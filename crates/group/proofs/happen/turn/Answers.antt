@@ -42,7 +42,7 @@ returns c =
     let room = c.requires.room in
     let d = length-drop (i * words) m in
     let t = length-take-le words (drop (i * words) m) (omega arith) in
-    let slice : Slice bs = (are_bytes bs (λ j. let f = c.type-inv.event j in omega arith), omega arith) in
+    let slice : Slice bs = (are_bytes bs (λ j. let f = c.type_inv.event j in omega arith), omega arith) in
     let long : length p ≡ words = omega arith in
     subst (λ (k : ℕ). Stepped (take k (drop (i * words) m)) bs (take (length ys - at) (drop at ys)) p q c.step.result
     → Turned words i at bs m ys (put_mid (i * words) k m p) (put_mid at (length ys - at) ys q) c.step.result) e

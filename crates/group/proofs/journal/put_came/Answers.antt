@@ -4,4 +4,4 @@ use Rattle.group.proofs.journal.put_came.Goals as goal
 
 pub returns : goal.returns
 returns c =
-    record { bytes = writes_then c.write-byte-next.ensures.bytes c.write-text.ensures.bytes; next = omega arith }
+    record { bytes = writes_then c.write_byte-next.ensures.bytes c.write_text.ensures.bytes; next = omega arith }

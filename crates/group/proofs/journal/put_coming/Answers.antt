@@ -10,10 +10,10 @@ returns c =
     let two : length c.args.message.now + 2 ≡ length t = omega arith in
     record {
       bytes =
-          writes_then c.write-byte-size.ensures.bytes
+          writes_then c.write_byte-size.ensures.bytes
           (writes_then
-          (subst (λ (n : ℕ). Writes c.write-byte-size.result (write_number n) c.write-byte-size.new.out
-          c.write-number-event.new.out c.write-number-event.result) two c.write-number-event.ensures.bytes)
-          c.write-comes.ensures.bytes);
+          (subst (λ (n : ℕ). Writes c.write_byte-size.result (write_number n) c.write_byte-size.new.out
+          c.write_number-event.new.out c.write_number-event.result) two c.write_number-event.ensures.bytes)
+          c.write_comes.ensures.bytes);
       next = omega arith;
     }

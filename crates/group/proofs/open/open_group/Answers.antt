@@ -8,8 +8,8 @@ use Rattle.group.proofs.open.open_group.Goals as goal
 pub loop-i-init : goal.loop-i-init
 loop-i-init c j low = absurd (omega arith)
 
-pub open-one-requires : goal.open-one-requires
-open-one-requires c =
+pub open_one-requires : goal.open_one-requires
+open_one-requires c =
     let i : ℕ = c.loop-i.i in
     let words : ℕ = c.args.g.words in
     let m : List ℕ = c.loop-i.mems in
@@ -37,8 +37,8 @@ loop-i-preserved c =
     let k : i * words + words - i * words ≡ words = omega arith in
     let e : length (take (i * words + words - i * words) (drop (i * words) m)) ≡ words =
     ap (λ (n : ℕ). length (take n (drop (i * words) m))) k ∙ t in
-    opened_more (group_of c.args.g) words i (i * words + words - i * words) m c.open-one.new.mem (sym k) (omega arith)
-    (omega arith) c.open-one.ensures c.loop-i.invariant
+    opened_more (group_of c.args.g) words i (i * words + words - i * words) m c.open_one.new.mem (sym k) (omega arith)
+    (omega arith) c.open_one.ensures c.loop-i.invariant
 
 pub returns : goal.returns
 returns c =
@@ -47,15 +47,15 @@ returns c =
     let all = c.loop-i-test.false in
     record { none = refl; playing = all_open c.args.g c.loop-i.mems c.requires.sized (omega arith) (λ j low. c.loop-i.invariant j (omega arith)) }
 
-pub offset-bounds-mems-at : goal.offset-bounds-mems-at
-offset-bounds-mems-at c =
+pub offset_bounds-mems-at : goal.offset_bounds-mems-at
+offset_bounds-mems-at c =
     let within = part_within c.loop-i.i c.args.g.servers c.args.g.words c.loop-i-test.true in
     let long = c.requires.long in
     let same = c.loop-i.auto.mems in
     omega arith
 
-pub slice-bounds-open-one-end : goal.slice-bounds-open-one-end
-slice-bounds-open-one-end c =
+pub slice_bounds-open_one-end : goal.slice_bounds-open_one-end
+slice_bounds-open_one-end c =
     let within = part_within c.loop-i.i c.args.g.servers c.args.g.words c.loop-i-test.true in
     let long = c.requires.long in
     let same = c.loop-i.auto.mems in

@@ -17,6 +17,6 @@ returns c room i es long is =
     let w = length-append (log_words es) (replicate {A = ℕ} (80 * (room - length es)) 0) in
     let z = length-replicate {A = ℕ} (80 * (room - length es)) 0 in
     let k = length_log_words es in
-    ap (λ (z : List ℕ). put_mid at (at + 80 - at) z c.pack-row.new.row) is
-    ∙ pushed room es (entry_by c.args.numbers i (command_of c.args.b.now c.args.command)) c.pack-row.new.row
-    at (at + 80 - at) (omega arith) (omega arith) (omega arith) (c.pack-row.ensures i)
+    ap (λ (z : List ℕ). put_mid at (at + 80 - at) z c.pack_row.new.row) is
+    ∙ pushed room es (entry_by c.args.numbers i (command_of c.args.b.now c.args.command)) c.pack_row.new.row
+    at (at + 80 - at) (omega arith) (omega arith) (omega arith) (c.pack_row.ensures i)

@@ -19,23 +19,23 @@ loop-rest-preserved c =
     let bs : List ℕ = c.args.b.now in
     let n : ℕ = c.loop-rest.rest.count in
     let at : ℕ = c.place-at.result in
-    let new : List Entry = entries_of bs c.next-entry.result.1 in
-    let e : Entry = entry_of bs c.next-entry.result.0 in
+    let new : List Entry = entries_of bs c.next_entry.result.1 in
+    let e : Entry = entry_of bs c.next_entry.result.0 in
     let some = c.loop-rest-test.true in
     let most = c.loop-rest.invariant.0 in
     let size = c.requires.size in
     let long = c.loop-rest.auto.rows in
     let place = c.place-at.ensures in
-    let less : c.next-entry.result.1.count ≡ n - 1 = c.next-entry.ensures.count in
+    let less : c.next_entry.result.1.count ≡ n - 1 = c.next_entry.ensures.count in
     let before : log_words (e ∷ new) ++ drop (80 * n) c.loop-rest.rows ≡ log_words (entries_of bs c.args.entries) =
-    ap (λ (es : List Entry). log_words es ++ drop (80 * n) c.loop-rest.rows) (sym c.next-entry.ensures.value)
+    ap (λ (es : List Entry). log_words es ++ drop (80 * n) c.loop-rest.rows) (sym c.next_entry.ensures.value)
     ∙ c.loop-rest.invariant.2 in (
       omega arith,
-      c.next-entry.ensures.rest,
-      ap (λ (k : ℕ). log_words new ++ drop (80 * k) (put_mid at (at + 80 - at) c.loop-rest.rows c.pack-entry.new.row)) less
-          ∙ rows_more n at (at + 80 - at) new e c.loop-rest.rows c.pack-entry.new.row
+      c.next_entry.ensures.rest,
+      ap (λ (k : ℕ). log_words new ++ drop (80 * k) (put_mid at (at + 80 - at) c.loop-rest.rows c.pack_entry.new.row)) less
+          ∙ rows_more n at (at + 80 - at) new e c.loop-rest.rows c.pack_entry.new.row
           (log_words (entries_of bs c.args.entries))
-          some (omega arith) (omega arith) (omega arith) c.pack-entry.ensures before,
+          some (omega arith) (omega arith) (omega arith) c.pack_entry.ensures before,
     )
 
 pub returns : goal.returns

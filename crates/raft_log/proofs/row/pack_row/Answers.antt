@@ -8,7 +8,7 @@ use Rattle.raft_log.proofs.Written.{row_written}
 pub returns : goal.returns
 unfolding row_words
 returns c i =
-    ap (λ (z : List ℕ). put_mid 4 76 z c.pack-command.new.words) c.write.ensures
-    ∙ row_written c.args.row.now c.pack-command.new.words (command_words (command_of c.args.b.now c.args.command))
+    ap (λ (z : List ℕ). put_mid 4 76 z c.pack_command.new.words) c.write.ensures
+    ∙ row_written c.args.row.now c.pack_command.new.words (command_words (command_of c.args.b.now c.args.command))
     c.args.numbers.term c.args.numbers.server c.args.numbers.client c.args.numbers.number
-    c.requires.size c.pack-command.ensures
+    c.requires.size c.pack_command.ensures

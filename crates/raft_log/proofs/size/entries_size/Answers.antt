@@ -7,8 +7,8 @@ use Rattle.raft_log.proofs.size.entries_size.Goals as goal
 use Rattle.raft_log.proofs.Found.{row_part}
 use Rattle.raft_log.proofs.Entries.{above_bytes, above_more, above_end, lent_row}
 
-pub entry-size-total-requires : goal.entry-size-total-requires
-entry-size-total-requires c =
+pub entry_size-total-requires : goal.entry_size-total-requires
+entry_size-total-requires c =
     let some = c.loop-left-test.true in
     let row = lent_row c.place-row.result c.loop-left.left c.args.len c.args.region.now c.place-row.ensures
     (omega arith) c.loop-left.invariant.0 c.requires.there c.requires.sound in
@@ -22,9 +22,9 @@ loop-left-preserved c =
     let most = c.loop-left.invariant.0 in
     let before = c.loop-left.invariant.1 in
     let bound = c.loop-left.invariant.2 in
-    let few = c.entry-size-total.ensures.most in
-    let one : c.entry-size-total.result ≡ length (write_entry (entry_in left ws)) =
-    c.entry-size-total.ensures.exact left
+    let few = c.entry_size-total.ensures.most in
+    let one : c.entry_size-total.result ≡ length (write_entry (entry_in left ws)) =
+    c.entry_size-total.ensures.exact left
     ∙ ap (λ (x : List ℕ). length (write_entry (row_in left x))) (row_part c.place-row.result left ws c.place-row.ensures) in
     let more = ap length (above_more c.args.index left ws some) in
     let both = length-append (write_entry (entry_in left ws)) (above_bytes c.args.index (left - 1) ws) in

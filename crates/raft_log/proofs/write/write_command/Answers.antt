@@ -11,21 +11,21 @@ write-text_in-expecting-requires c =
     let long = length_part 1 9 ws (omega arith) in
     let first = first_of 1 9 ws (omega arith) in
     let sound = c.requires.sound.name in
-    let room = room_name ws c.requires.sound.tag c.requires.room c.write-byte-named.ensures.bytes in
+    let room = room_name ws c.requires.sound.tag c.requires.room c.write_byte-named.ensures.bytes in
     record {
       some = omega arith;
       sound = omega arith;
-      room = room_first (name_bytes ws) (expected_bytes ws ++ last_bytes ws) c.write-byte-named.result
-          (length c.write-byte-named.new.out) room;
+      room = room_first (name_bytes ws) (expected_bytes ws ++ last_bytes ws) c.write_byte-named.result
+          (length c.write_byte-named.new.out) room;
     }
 
-pub write-expected-last-requires : goal.write-expected-last-requires
-write-expected-last-requires c =
+pub write_expected-last-requires : goal.write_expected-last-requires
+write_expected-last-requires c =
     let ws : List ℕ = c.args.words.now in
     let size = c.requires.size in
     let first = first_of 10 33 ws (omega arith) in
     let sound = c.requires.sound.expected in
-    let room = room_name ws c.requires.sound.tag c.requires.room c.write-byte-named.ensures.bytes in
+    let room = room_name ws c.requires.sound.tag c.requires.room c.write_byte-named.ensures.bytes in
     record {
       size = length_part 10 33 ws (omega arith);
       sound = omega arith;
@@ -34,21 +34,21 @@ write-expected-last-requires c =
           (room_next (expected_bytes ws ++ last_bytes ws) room c.write-text_in-expecting.ensures);
     }
 
-pub write-last-requires : goal.write-last-requires
-write-last-requires c =
+pub write_last-requires : goal.write_last-requires
+write_last-requires c =
     let ws : List ℕ = c.args.words.now in
     let size = c.requires.size in
     let first = first_of 43 33 ws (omega arith) in
     let sound = c.requires.sound.text in
-    let room = room_name ws c.requires.sound.tag c.requires.room c.write-byte-named.ensures.bytes in
+    let room = room_name ws c.requires.sound.tag c.requires.room c.write_byte-named.ensures.bytes in
     record {
       size = length_part 43 33 ws (omega arith);
       sound = omega arith;
       room = room_next (last_bytes ws) (room_next (expected_bytes ws ++ last_bytes ws) room c.write-text_in-expecting.ensures)
-          c.write-expected-last.ensures;
+          c.write_expected-last.ensures;
     }
 
 pub returns : goal.returns
 returns c =
-    command_written c.args.words.now c.requires.sound.tag c.write-byte-named.ensures.bytes
-    c.write-text_in-expecting.ensures c.write-expected-last.ensures c.write-last.ensures
+    command_written c.args.words.now c.requires.sound.tag c.write_byte-named.ensures.bytes
+    c.write-text_in-expecting.ensures c.write_expected-last.ensures c.write_last.ensures

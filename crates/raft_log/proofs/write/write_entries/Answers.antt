@@ -8,8 +8,8 @@ use Rattle.raft_log.proofs.Rooms.{room_first, room_next}
 use Rattle.raft_log.proofs.Found.{row_part}
 use Rattle.raft_log.proofs.Entries.{above_bytes, above_more, above_end, lent_row}
 
-pub write-entry-next-requires : goal.write-entry-next-requires
-write-entry-next-requires c =
+pub write_entry-next-requires : goal.write_entry-next-requires
+write_entry-next-requires c =
     let ws : List ℕ = c.args.region.now in
     let left : ℕ = c.loop-left.left in
     let some = c.loop-left-test.true in
@@ -42,7 +42,7 @@ loop-left-preserved c =
     let both : c.loop-left.next + length (one ++ rest) ≤ length c.loop-left.out = omega arith in
     let place = c.place-row.ensures in
     let row = row_part c.place-row.result left ws (omega arith) in
-    let here = writes_as (ap (λ (x : List ℕ). write_entry (row_in left x)) row) c.write-entry-next.ensures in
+    let here = writes_as (ap (λ (x : List ℕ). write_entry (row_in left x)) row) c.write_entry-next.ensures in
     (omega arith, room_next rest both here, λ o n w. c.loop-left.invariant.2 o n (writes_as more (writes_then here w)))
 
 pub returns : goal.returns

@@ -9,8 +9,8 @@ use Rattle.raft_log.proofs.write.write_entry.Goals as goal
 use Rattle.raft_log.proofs.Rooms.{room_first, room_next, length_numbers}
 use Rattle.raft_log.proofs.Entries.{numbers_bytes, numbers_same, entry_bytes, command_rest, room_both}
 
-pub write-numbers-next-requires : goal.write-numbers-next-requires
-write-numbers-next-requires c =
+pub write_numbers-next-requires : goal.write_numbers-next-requires
+write_numbers-next-requires c =
     let ws : List ℕ = c.args.row.now in
     let out : ℕ = length c.args.out.now in
     let same = ap (λ (x : Numbers). x.server) c.read.ensures in
@@ -20,16 +20,16 @@ write-numbers-next-requires c =
     let long = length_numbers (get_or ws 1 0) (get_or ws 2 0) (get_or ws 3 0) c.args.index (get_or ws 0 0) in
     record { server = omega arith; room = omega arith }
 
-pub write-command-requires : goal.write-command-requires
-write-command-requires c =
+pub write_command-requires : goal.write_command-requires
+write_command-requires c =
     let ws : List ℕ = c.args.row.now in
     let rest = command_rest ws c.requires.size in
     let long = length-drop 4 ws in
     let size = c.requires.size in
     let same = numbers_same c.args.index ws c.read.result c.read.ensures in
-    let numbers = writes_as same c.write-numbers-next.ensures.bytes in
-    let next : ℕ = c.write-numbers-next.result in
-    let out : List ℕ = c.write-numbers-next.new.out in
+    let numbers = writes_as same c.write_numbers-next.ensures.bytes in
+    let next : ℕ = c.write_numbers-next.result in
+    let out : List ℕ = c.write_numbers-next.new.out in
     record {
       size = ap length rest ∙ omega arith;
       sound = subst (λ (x : List ℕ). SoundCommand x) (sym rest) c.requires.sound.command;
@@ -44,5 +44,5 @@ returns c =
     let ws : List ℕ = c.args.row.now in
     writes_as (entry_bytes c.args.index ws)
     (writes_then
-    (writes_as (numbers_same c.args.index ws c.read.result c.read.ensures) c.write-numbers-next.ensures.bytes)
-    (writes_as (ap (λ (x : List ℕ). write_command (command_in x)) (command_rest ws c.requires.size)) c.write-command.ensures))
+    (writes_as (numbers_same c.args.index ws c.read.result c.read.ensures) c.write_numbers-next.ensures.bytes)
+    (writes_as (ap (λ (x : List ℕ). write_command (command_in x)) (command_rest ws c.requires.size)) c.write_command.ensures))

@@ -5,15 +5,15 @@ use Rattle.raft_log.proofs.Places.{log_in_row}
 use Rattle.sending.proofs.append.write_append.Goals as goal
 use Rattle.sending.proofs.Letters.{append_written, length_append_message}
 
-pub write-append-head-entries-requires : goal.write-append-head-entries-requires
-write-append-head-entries-requires c =
+pub write_append_head-entries-requires : goal.write_append_head-entries-requires
+write_append_head-entries-requires c =
     let log : List Entry = log_in c.args.len c.args.log.now in
     let i : ℕ = c.args.before in
     let l = length_append_message c.args.term i (term_of (entry_at i log)) c.args.commit (above i log) in
     omega arith
 
-pub write-entries-requires : goal.write-entries-requires
-write-entries-requires c =
+pub write_entries-requires : goal.write_entries-requires
+write_entries-requires c =
     let log : List Entry = log_in c.args.len c.args.log.now in
     let i : ℕ = c.args.before in
     let l = length_append_message c.args.term i (term_of (entry_at i log)) c.args.commit (above i log) in
@@ -24,6 +24,6 @@ returns c =
     let log : List Entry = log_in c.args.len c.args.log.now in
     let i : ℕ = c.args.before in
     let row = log_in_row c.args.len c.args.log.now in
-    append_written c.args.term i c.term-or-zero-before-term.result c.args.commit c.saturating-sub-count.result log row.0
-    c.term-or-zero-before-term.ensures (c.saturating-sub-count.ensures ∙ ap (λ (n : ℕ). n - i) (sym row.1))
-    c.write-append-head-entries.ensures.bytes c.write-entries.ensures
+    append_written c.args.term i c.term_or_zero-before_term.result c.args.commit c.saturating_sub-count.result log row.0
+    c.term_or_zero-before_term.ensures (c.saturating_sub-count.ensures ∙ ap (λ (n : ℕ). n - i) (sym row.1))
+    c.write_append_head-entries.ensures.bytes c.write_entries.ensures

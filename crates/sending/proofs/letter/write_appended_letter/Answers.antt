@@ -7,6 +7,6 @@ pub returns : goal.returns
 returns c =
     let m : Message = appended c.args.term c.args.index c.args.ok in
     record {
-      bytes = sealed {m = m} refl c.write-appended-end.ensures.bytes c.seal.ensures.head c.seal.ensures.same;
+      bytes = sealed {m = m} refl c.write_appended-end.ensures.bytes c.seal.ensures.head c.seal.ensures.same;
       next = omega arith;
     }

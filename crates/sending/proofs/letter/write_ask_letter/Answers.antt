@@ -5,8 +5,8 @@ use Rattle.sending.specs.Letters.{asks}
 use Rattle.sending.proofs.letter.write_ask_letter.Goals as goal
 use Rattle.sending.proofs.Letters.{sealed, same_ask, length_post, length_ask_message}
 
-pub write-ask-vote-end-requires : goal.write-ask-vote-end-requires
-write-ask-vote-end-requires c =
+pub write_ask_vote-end-requires : goal.write_ask_vote-end-requires
+write_ask_vote-end-requires c =
     let s : State = state_of c.args.mem.now in
     let p = length_post c.args.h (asks s) in
     let m = length_ask_message s in
@@ -15,7 +15,7 @@ write-ask-vote-end-requires c =
 pub returns : goal.returns
 returns c =
     sealed
-    (same_ask c.args.mem.now c.log-part.result.now c.last-index-len.result c.term-term.result c.last-term-last.result
-    c.last-index-len.ensures.word c.log-part.ensures.rows c.term-term.ensures.value c.last-index-len.ensures.last
-    c.last-term-last.ensures)
-    c.write-ask-vote-end.ensures.bytes c.seal.ensures.head c.seal.ensures.same
+    (same_ask c.args.mem.now c.log_part.result.now c.last_index-len.result c.term-term.result c.last_term-last.result
+    c.last_index-len.ensures.word c.log_part.ensures.rows c.term-term.ensures.value c.last_index-len.ensures.last
+    c.last_term-last.ensures)
+    c.write_ask_vote-end.ensures.bytes c.seal.ensures.head c.seal.ensures.same

@@ -7,6 +7,6 @@ pub returns : goal.returns
 returns c =
     let m : Message = vote c.args.term c.args.granted in
     record {
-      bytes = sealed {m = m} refl c.write-vote-end.ensures.bytes c.seal.ensures.head c.seal.ensures.same;
+      bytes = sealed {m = m} refl c.write_vote-end.ensures.bytes c.seal.ensures.head c.seal.ensures.same;
       next = omega arith;
     }

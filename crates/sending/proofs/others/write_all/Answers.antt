@@ -17,8 +17,8 @@ loop-h-init c =
     let f : (ℕ → Message) = message_to c.args.sent (state_of m) in
     sent_start (me_in m) f (writes_none c.args.at c.args.out.now (omega arith))
 
-pub write-one-next-requires : goal.write-one-next-requires
-write-one-next-requires c =
+pub write_one-next-requires : goal.write_one-next-requires
+write_one-next-requires c =
     let m : List ℕ = c.args.mem.now in
     let h : ℕ = c.loop-h.h in
     let f : (ℕ → Message) = message_to c.args.sent (state_of m) in
@@ -39,6 +39,6 @@ loop-h-preserved c =
     elim c.if-h-all.branch [
       | then-h-all w ↦
           same_end w.out-is w.next-is
-          (sent_on h (me_in m) f (λ z. w.if-h-all.true (omega arith)) c.loop-h.invariant w.write-one-next.ensures)
+          (sent_on h (me_in m) f (λ z. w.if-h-all.true (omega arith)) c.loop-h.invariant w.write_one-next.ensures)
       | else-h-all w ↦ same_end w.out-is w.next-is (sent_past h (me_in m) f (w.if-h-all.false ∙ me) c.loop-h.invariant)
     ]

@@ -4,15 +4,15 @@ use Rattle.wire_write.proofs.Putting.{writes_none, writes_as}
 use Rattle.server.proofs.Sent.{letters_none, letters_one, length_vote, length_reply}
 use Rattle.server.proofs.first.write_first.Goals as goal
 
-pub write-vote-letter-requires : goal.write-vote-letter-requires
-write-vote-letter-requires c =
+pub write_vote_letter-requires : goal.write_vote_letter-requires
+write_vote_letter-requires c =
     let a = c.in-Vote in
     let p = rw c.in-Vote.is at c.requires.room in
     let e = length_vote a.to a.term a.granted in
     omega arith
 
-pub write-appended-letter-requires : goal.write-appended-letter-requires
-write-appended-letter-requires c =
+pub write_appended_letter-requires : goal.write_appended_letter-requires
+write_appended_letter-requires c =
     let a = c.in-Reply in
     let p = rw c.in-Reply.is at c.requires.room in
     let e = length_reply a.to a.term a.index a.ok in
@@ -26,10 +26,10 @@ returns-in-Nothing c =
 pub returns-in-Vote : goal.returns-in-Vote
 returns-in-Vote c =
     let a = c.in-Vote in
-    rw c.in-Vote.is (writes_as (sym (letters_one a.to (vote a.term a.granted))) c.write-vote-letter.ensures.bytes)
+    rw c.in-Vote.is (writes_as (sym (letters_one a.to (vote a.term a.granted))) c.write_vote_letter.ensures.bytes)
 
 pub returns-in-Reply : goal.returns-in-Reply
 returns-in-Reply c =
     let a = c.in-Reply in
     rw c.in-Reply.is
-    (writes_as (sym (letters_one a.to (appended a.term a.index a.ok))) c.write-appended-letter.ensures.bytes)
+    (writes_as (sym (letters_one a.to (appended a.term a.index a.ok))) c.write_appended_letter.ensures.bytes)

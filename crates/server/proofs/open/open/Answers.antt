@@ -12,9 +12,9 @@ pub returns : goal.returns
 returns c =
     let l = limits_of serves c.args.l in
     let n = length c.args.mem.now in
-    let m : List ℕ = c.write-new.new.mem in
-    let x = reached_new l m c.requires.good c.write-new.ensures in
+    let m : List ℕ = c.write_new.new.mem in
+    let x = reached_new l m c.requires.good c.write_new.ensures in
     record {
       value = lent_enough l n c.args.out (omega arith) (omega arith);
-      memory = (c.write-new.ensures, reached_limits l m x, reached_self l m x);
+      memory = (c.write_new.ensures, reached_limits l m x, reached_self l m x);
     }

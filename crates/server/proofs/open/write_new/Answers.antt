@@ -10,6 +10,6 @@ returns c =
     let zs : List ℕ = c.fill.new.self in
     let len = c.fill.ensures.len in
     let all = c.requires.long in
-    c.write-head.ensures
-    ∙ new_words l n at (length zs - at) zs c.open-region.new.region (c.fill.ensures.after (λ y e. e)) (omega arith) (omega arith)
-    c.open-region.ensures.empty
+    c.write_head.ensures
+    ∙ new_words l n at (length zs - at) zs c.open_region.new.region (c.fill.ensures.after (λ y e. e)) (omega arith) (omega arith)
+    c.open_region.ensures.empty

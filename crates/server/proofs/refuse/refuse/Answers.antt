@@ -17,5 +17,5 @@ returns c =
       bytes = begins (writes_as
           (ap (λ (k : ℕ). write_answer (refused k c.place-place.result)) n
           ∙ ap (λ (k : ℕ). write_answer (refused (refusal_number c.args.refusal) k)) p)
-          c.write-refused.ensures.bytes);
+          c.write_refused.ensures.bytes);
     }

@@ -8,7 +8,7 @@ use Rattle.server.proofs.step.step.Goals as goal
 pub act-requires : goal.act-requires
 act-requires c =
     let m : List ℕ = c.args.mem.now in
-    let p = read_is_readable c.args.event.now c.are-bytes.ensures in
+    let p = read_is_readable c.args.event.now c.are_bytes.ensures in
     let room = c.requires.room in
     record {
       held = reached_held (limits_of m) m c.requires.reached;
@@ -20,7 +20,7 @@ act-requires c =
 pub returns : goal.returns
 returns c =
     let m : List ℕ = c.args.mem.now in
-    let p = read_is_readable c.args.event.now c.are-bytes.ensures in
+    let p = read_is_readable c.args.event.now c.are_bytes.ensures in
     let s = stepped m c.args.event.now c.args.out.now c.act.new.mem c.act.new.out c.act.result c.requires.reached p
     c.act.ensures in
     let m' : List ℕ = c.act.new.mem in

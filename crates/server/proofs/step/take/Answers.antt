@@ -7,8 +7,8 @@ use Rattle.state.specs.Held.{limits_of, state_of}
 use Rattle.server.proofs.Steps.{Ready, event_as, answered_as}
 use Rattle.server.proofs.step.take.Goals as goal
 
-pub on-timeout-requires : goal.on-timeout-requires
-on-timeout-requires c =
+pub on_timeout-requires : goal.on_timeout-requires
+on_timeout-requires c =
     let m : List ℕ = c.args.mem.now in
     let bs : List ℕ = c.args.b.now in
     let all : Ready m bs (length c.args.out.now) c.args.event = record {
@@ -20,8 +20,8 @@ on-timeout-requires c =
     let r = event_as c.in-Timeout.is all in
     record { held = c.requires.held; room = r.room }
 
-pub on-request-requires : goal.on-request-requires
-on-request-requires c =
+pub on_request-requires : goal.on_request-requires
+on_request-requires c =
     let m : List ℕ = c.args.mem.now in
     let bs : List ℕ = c.args.b.now in
     let all : Ready m bs (length c.args.out.now) c.args.event = record {
@@ -41,8 +41,8 @@ on-request-requires c =
       room = r.room;
     }
 
-pub take-message-requires : goal.take-message-requires
-take-message-requires c =
+pub take_message-requires : goal.take_message-requires
+take_message-requires c =
     let m : List ℕ = c.args.mem.now in
     let bs : List ℕ = c.args.b.now in
     let all : Ready m bs (length c.args.out.now) c.args.event = record {
@@ -66,10 +66,10 @@ take-message-requires c =
     }
 
 pub returns-in-Timeout : goal.returns-in-Timeout
-returns-in-Timeout c = answered_as (ap (means c.args.b.now) (sym c.in-Timeout.is)) c.on-timeout.ensures
+returns-in-Timeout c = answered_as (ap (means c.args.b.now) (sym c.in-Timeout.is)) c.on_timeout.ensures
 
 pub returns-in-Request : goal.returns-in-Request
-returns-in-Request c = answered_as (ap (means c.args.b.now) (sym c.in-Request.is)) c.on-request.ensures
+returns-in-Request c = answered_as (ap (means c.args.b.now) (sym c.in-Request.is)) c.on_request.ensures
 
 pub returns-in-Comes : goal.returns-in-Comes
-returns-in-Comes c = answered_as (ap (means c.args.b.now) (sym c.in-Comes.is)) c.take-message.ensures
+returns-in-Comes c = answered_as (ap (means c.args.b.now) (sym c.in-Comes.is)) c.take_message.ensures

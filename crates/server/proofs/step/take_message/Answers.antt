@@ -6,8 +6,8 @@ use Rattle.wire_read.specs.declared.parts.Message.{Message}
 use Rattle.server.proofs.Steps.{ReadyMessage, ready_as, answered_as}
 use Rattle.server.proofs.step.take_message.Goals as goal
 
-pub on-ask-requires : goal.on-ask-requires
-on-ask-requires c =
+pub on_ask-requires : goal.on_ask-requires
+on_ask-requires c =
     let m : List ℕ = c.args.mem.now in
     let bs : List ℕ = c.args.b.now in
     let all : ReadyMessage m bs (length c.args.out.now) c.args.from c.args.message = record {
@@ -23,10 +23,10 @@ on-ask-requires c =
 pub returns-in-AskVote : goal.returns-in-AskVote
 returns-in-AskVote c =
     let f : (Message → server.Event) = λ x. comes c.args.from (message_of c.args.b.now x) in
-    answered_as (ap f (sym c.in-AskVote.is)) c.on-ask.ensures
+    answered_as (ap f (sym c.in-AskVote.is)) c.on_ask.ensures
 
-pub on-vote-requires : goal.on-vote-requires
-on-vote-requires c =
+pub on_vote-requires : goal.on_vote-requires
+on_vote-requires c =
     let m : List ℕ = c.args.mem.now in
     let bs : List ℕ = c.args.b.now in
     let all : ReadyMessage m bs (length c.args.out.now) c.args.from c.args.message = record {
@@ -42,10 +42,10 @@ on-vote-requires c =
 pub returns-in-Vote : goal.returns-in-Vote
 returns-in-Vote c =
     let f : (Message → server.Event) = λ x. comes c.args.from (message_of c.args.b.now x) in
-    answered_as (ap f (sym c.in-Vote.is)) c.on-vote.ensures
+    answered_as (ap f (sym c.in-Vote.is)) c.on_vote.ensures
 
-pub on-append-requires : goal.on-append-requires
-on-append-requires c =
+pub on_append-requires : goal.on_append-requires
+on_append-requires c =
     let m : List ℕ = c.args.mem.now in
     let bs : List ℕ = c.args.b.now in
     let all : ReadyMessage m bs (length c.args.out.now) c.args.from c.args.message = record {
@@ -61,10 +61,10 @@ on-append-requires c =
 pub returns-in-Append : goal.returns-in-Append
 returns-in-Append c =
     let f : (Message → server.Event) = λ x. comes c.args.from (message_of c.args.b.now x) in
-    answered_as (ap f (sym c.in-Append.is)) c.on-append.ensures
+    answered_as (ap f (sym c.in-Append.is)) c.on_append.ensures
 
-pub on-appended-requires : goal.on-appended-requires
-on-appended-requires c =
+pub on_appended-requires : goal.on_appended-requires
+on_appended-requires c =
     let m : List ℕ = c.args.mem.now in
     let bs : List ℕ = c.args.b.now in
     let all : ReadyMessage m bs (length c.args.out.now) c.args.from c.args.message = record {
@@ -80,4 +80,4 @@ on-appended-requires c =
 pub returns-in-Appended : goal.returns-in-Appended
 returns-in-Appended c =
     let f : (Message → server.Event) = λ x. comes c.args.from (message_of c.args.b.now x) in
-    answered_as (ap f (sym c.in-Appended.is)) c.on-appended.ensures
+    answered_as (ap f (sym c.in-Appended.is)) c.on_appended.ensures

@@ -6,16 +6,16 @@ use Rattle.server.proofs.Answering.{Taken, taken, room_taken}
 use Rattle.server.proofs.Events.{timeout_goes_on, timeout_letters}
 use Rattle.server.proofs.votes.go_on.Goals as goal
 
-pub time-is-up-leads-requires : goal.time-is-up-leads-requires
-time-is-up-leads-requires c = record { held = c.requires.held; more = timeout_goes_on (limits_of c.args.mem.now) (state_of c.args.mem.now) refl c.requires.taken }
+pub time_is_up-leads-requires : goal.time_is_up-leads-requires
+time_is_up-leads-requires c = record { held = c.requires.held; more = timeout_goes_on (limits_of c.args.mem.now) (state_of c.args.mem.now) refl c.requires.taken }
 
 pub finish-requires : goal.finish-requires
 finish-requires c =
     let m : List ℕ = c.args.mem.now in
-    let m₁ : List ℕ = c.time-is-up-leads.new.mem in
-    let b = c.time-is-up-leads.ensures.state in
-    let x = c.asks-unless-first.result in
-    let e = timeout_letters m m₁ c.time-is-up-leads.result x b c.time-is-up-leads.ensures.leads c.asks-unless-first.ensures in
+    let m₁ : List ℕ = c.time_is_up-leads.new.mem in
+    let b = c.time_is_up-leads.ensures.state in
+    let x = c.asks_unless-first.result in
+    let e = timeout_letters m m₁ c.time_is_up-leads.result x b c.time_is_up-leads.ensures.leads c.asks_unless-first.ensures in
     let t : Taken (limits_of m) (state_of m) timeout = record { free = c.requires.taken; goes_on = refl; told = refl } in
     record {
       held = b.held;
@@ -25,10 +25,10 @@ finish-requires c =
 pub returns : goal.returns
 returns c =
     let m : List ℕ = c.args.mem.now in
-    let m₁ : List ℕ = c.time-is-up-leads.new.mem in
-    let b = c.time-is-up-leads.ensures.state in
-    let x = c.asks-unless-first.result in
-    let e = timeout_letters m m₁ c.time-is-up-leads.result x b c.time-is-up-leads.ensures.leads c.asks-unless-first.ensures in
+    let m₁ : List ℕ = c.time_is_up-leads.new.mem in
+    let b = c.time_is_up-leads.ensures.state in
+    let x = c.asks_unless-first.result in
+    let e = timeout_letters m m₁ c.time_is_up-leads.result x b c.time_is_up-leads.ensures.leads c.asks_unless-first.ensures in
     let t : Taken (limits_of m) (state_of m) timeout = record { free = c.requires.taken; goes_on = refl; told = refl } in
     taken m m₁ c.finish.new.mem c.args.out.now c.finish.new.out timeout (first_of (limits_of m₁) (state_of m₁) x)
     c.finish.result t b e c.finish.ensures

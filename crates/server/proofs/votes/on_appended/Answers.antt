@@ -7,8 +7,8 @@ use Rattle.server.proofs.votes.on_appended.Goals as goal
 pub finish-requires : goal.finish-requires
 finish-requires c =
     let m : List ℕ = c.args.mem.now in
-    let m₁ : List ℕ = c.appended-comes.new.mem in
-    let b = c.appended-comes.ensures in
+    let m₁ : List ℕ = c.appended_comes.new.mem in
+    let b = c.appended_comes.ensures in
     let ev : Event = comes c.args.from (appended c.args.term c.args.index c.args.ok) in
     let t : Taken (limits_of m) (state_of m) ev = record { free = c.requires.taken; goes_on = refl; told = refl } in
     record { held = b.held; room = room_taken m m₁ ev [] (length c.args.out.now) t b refl c.requires.room }
@@ -16,8 +16,8 @@ finish-requires c =
 pub returns : goal.returns
 returns c =
     let m : List ℕ = c.args.mem.now in
-    let m₁ : List ℕ = c.appended-comes.new.mem in
+    let m₁ : List ℕ = c.appended_comes.new.mem in
     let ev : Event = comes c.args.from (appended c.args.term c.args.index c.args.ok) in
     let t : Taken (limits_of m) (state_of m) ev = record { free = c.requires.taken; goes_on = refl; told = refl } in
-    taken m m₁ c.finish.new.mem c.args.out.now c.finish.new.out ev [] c.finish.result t c.appended-comes.ensures refl
+    taken m m₁ c.finish.new.mem c.args.out.now c.finish.new.out ev [] c.finish.result t c.appended_comes.ensures refl
     c.finish.ensures

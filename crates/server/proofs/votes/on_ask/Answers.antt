@@ -10,26 +10,26 @@ use Rattle.server.proofs.votes.on_ask.Goals as goal
 pub finish-requires : goal.finish-requires
 finish-requires c =
     let m : List ℕ = c.args.mem.now in
-    let m₁ : List ℕ = c.asked-for-vote-reply.new.mem in
-    let b = c.asked-for-vote-reply.ensures.state in
-    let v = c.asked-for-vote-reply.result in
+    let m₁ : List ℕ = c.asked_for_vote-reply.new.mem in
+    let b = c.asked_for_vote-reply.ensures.state in
+    let v = c.asked_for_vote-reply.result in
     let x : First = Vote c.args.from v.term v.granted in
     let ev : Event = comes c.args.from (ask_vote c.args.term c.args.last c.args.of) in
     let t : Taken (limits_of m) (state_of m) ev = record { free = c.requires.taken; goes_on = refl; told = refl } in
     record {
       held = b.held;
       room = room_taken m m₁ ev (first_of (limits_of m₁) (state_of m₁) x) (length c.args.out.now) t b
-          (sym c.asked-for-vote-reply.ensures.reply) c.requires.room;
+          (sym c.asked_for_vote-reply.ensures.reply) c.requires.room;
     }
 
 pub returns : goal.returns
 returns c =
     let m : List ℕ = c.args.mem.now in
-    let m₁ : List ℕ = c.asked-for-vote-reply.new.mem in
-    let b = c.asked-for-vote-reply.ensures.state in
-    let v = c.asked-for-vote-reply.result in
+    let m₁ : List ℕ = c.asked_for_vote-reply.new.mem in
+    let b = c.asked_for_vote-reply.ensures.state in
+    let v = c.asked_for_vote-reply.result in
     let x : First = Vote c.args.from v.term v.granted in
     let ev : Event = comes c.args.from (ask_vote c.args.term c.args.last c.args.of) in
     let t : Taken (limits_of m) (state_of m) ev = record { free = c.requires.taken; goes_on = refl; told = refl } in
     taken m m₁ c.finish.new.mem c.args.out.now c.finish.new.out ev (first_of (limits_of m₁) (state_of m₁) x)
-    c.finish.result t b (sym c.asked-for-vote-reply.ensures.reply) c.finish.ensures
+    c.finish.result t b (sym c.asked_for_vote-reply.ensures.reply) c.finish.ensures

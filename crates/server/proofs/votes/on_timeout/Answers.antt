@@ -9,12 +9,12 @@ use Rattle.server.proofs.votes.on_timeout.Goals as goal
 pub returns-then-not-free : goal.returns-then-not-free
 returns-then-not-free c =
     let m : List ℕ = c.args.mem.now in
-    let e = timeout_last (limits_of m) (state_of m) refl (sym c.may-go-on-free.ensures ∙ c.if-not-free.true) in
+    let e = timeout_last (limits_of m) (state_of m) refl (sym c.may_go_on-free.ensures ∙ c.if-not-free.true) in
     turned_away m c.args.out.now c.refuse.new.out timeout LastTerm c.refuse.result c.requires.held e refl
     c.refuse.ensures.answer c.refuse.ensures.bytes
 
-pub go-on-requires : goal.go-on-requires
-go-on-requires c =
+pub go_on-requires : goal.go_on-requires
+go_on-requires c =
     let m : List ℕ = c.args.mem.now in
-    let e = timeout_free (limits_of m) (state_of m) refl (sym c.may-go-on-free.ensures ∙ c.if-not-free.false) in
+    let e = timeout_free (limits_of m) (state_of m) refl (sym c.may_go_on-free.ensures ∙ c.if-not-free.false) in
     record { held = c.requires.held; taken = e; room = c.requires.room }

@@ -3,8 +3,8 @@ use Rattle.apply.proofs.Sizes.{told_fits}
 use Rattle.server.proofs.Written.{begins_after}
 use Rattle.server.proofs.writes.decline.Goals as goal
 
-pub apply-all-requires : goal.apply-all-requires
-apply-all-requires c =
+pub apply_all-requires : goal.apply_all-requires
+apply_all-requires c =
     let most = told_fits c.args.mem.now c.requires.held in
     let room = c.requires.room in
     record { held = c.requires.held; room = omega arith }
@@ -12,7 +12,7 @@ apply-all-requires c =
 pub returns : goal.returns
 returns c =
     record {
-      state = c.apply-all.ensures.turns;
+      state = c.apply_all.ensures.turns;
       answer = refl;
-      bytes = begins_after c.apply-all.ensures.bytes c.write-not-leader.ensures.bytes;
+      bytes = begins_after c.apply_all.ensures.bytes c.write_not_leader.ensures.bytes;
     }

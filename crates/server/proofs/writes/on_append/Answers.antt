@@ -11,7 +11,7 @@ use Rattle.server.proofs.writes.on_append.Goals as goal
 
 pub append-reply-requires : goal.append-reply-requires
 append-reply-requires c =
-    let g = append_given c.args.mem.now c.args.b.now c.args.from c.args.term c.args.before c.args.before-term
+    let g = append_given c.args.mem.now c.args.b.now c.args.from c.args.term c.args.before c.args.before_term
     c.args.commit c.args.entries c.requires.within c.requires.taken c.requires.readable in
     record { held = c.requires.held; here = g.0; low = g.1; commit = g.2; can = g.3 }
 
@@ -22,7 +22,7 @@ finish-requires c =
     let v = c.append-reply.result in
     let x : First = Reply c.args.from v.term v.index v.ok in
     let es = entries_of c.args.b.now c.args.entries in
-    let ev : Event = comes c.args.from (append c.args.term c.args.before c.args.before-term es c.args.commit) in
+    let ev : Event = comes c.args.from (append c.args.term c.args.before c.args.before_term es c.args.commit) in
     let t : Taken (limits_of m) (state_of m) ev = record { free = c.requires.taken; goes_on = refl; told = refl } in
     record {
       held = c.append-reply.ensures.state.held;
@@ -37,7 +37,7 @@ returns c =
     let v = c.append-reply.result in
     let x : First = Reply c.args.from v.term v.index v.ok in
     let es = entries_of c.args.b.now c.args.entries in
-    let ev : Event = comes c.args.from (append c.args.term c.args.before c.args.before-term es c.args.commit) in
+    let ev : Event = comes c.args.from (append c.args.term c.args.before c.args.before_term es c.args.commit) in
     let t : Taken (limits_of m) (state_of m) ev = record { free = c.requires.taken; goes_on = refl; told = refl } in
     taken m m₁ c.finish.new.mem c.args.out.now c.finish.new.out ev (first_of (limits_of m₁) (state_of m₁) x)
     c.finish.result t c.append-reply.ensures.state (sym c.append-reply.ensures.reply) c.finish.ensures

@@ -13,7 +13,7 @@ returns-then-full c =
     let x = command_of c.args.b.now c.args.command in
     let ev : Event = request c.args.client c.args.id x in
     let e = c.requires.passed ∙ request_full (limits_of m) (state_of m) c.args.client c.args.id x
-    (sym c.is-full-full.ensures ∙ c.if-full.true) in
+    (sym c.is_full-full.ensures ∙ c.if-full.true) in
     turned_away m c.args.out.now c.refuse.new.out ev LogFull c.refuse.result c.requires.held e refl
     c.refuse.ensures.answer c.refuse.ensures.bytes
 
@@ -25,20 +25,20 @@ returns-then-not-leads c =
     let m : List ℕ = c.args.mem.now in
     let x = command_of c.args.b.now c.args.command in
     let e = c.requires.passed ∙ request_free (limits_of m) (state_of m) c.args.client c.args.id x
-    (sym c.is-full-full.ensures ∙ c.if-full.false) in
+    (sym c.is_full-full.ensures ∙ c.if-full.false) in
     request_declined m c.args.out.now c.decline.new.mem c.decline.new.out c.args.client c.args.id x
-    c.decline.result e (sym c.is-leader-leads.ensures ∙ c.if-not-leads.true)
+    c.decline.result e (sym c.is_leader-leads.ensures ∙ c.if-not-leads.true)
     c.decline.ensures.state c.decline.ensures.answer c.decline.ensures.bytes
 
-pub take-request-requires : goal.take-request-requires
-take-request-requires c =
+pub take_request-requires : goal.take_request-requires
+take_request-requires c =
     let m : List ℕ = c.args.mem.now in
     let x = command_of c.args.b.now c.args.command in
     let e = c.requires.passed ∙ request_free (limits_of m) (state_of m) c.args.client c.args.id x
-    (sym c.is-full-full.ensures ∙ c.if-full.false) in
+    (sym c.is_full-full.ensures ∙ c.if-full.false) in
     record {
       held = c.requires.held;
-      leads = sym c.is-leader-leads.ensures ∙ c.if-not-leads.false;
+      leads = sym c.is_leader-leads.ensures ∙ c.if-not-leads.false;
       within = c.requires.within;
       readable = c.requires.readable;
       taken = e;

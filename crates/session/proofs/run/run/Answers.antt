@@ -11,7 +11,7 @@ taking-smaller c =
     let rs : List ℕ = c.args.records.now in
     let at : ℕ = c.taking.done.read in
     let next : ℕ = c.in-Ok.next in
-    let r = read_one rs at c.read-text.result c.in-Ok.event next c.in-Ok.is c.read-text.ensures in
+    let r = read_one rs at c.read_text.result c.in-Ok.event next c.in-Ok.is c.read_text.ensures in
     less_left rs at next (text_of rs c.in-Ok.event) r.0 r.1
 
 pub taking-preserved : goal.taking-preserved
@@ -19,7 +19,7 @@ taking-preserved c =
     let rs : List ℕ = c.args.records.now in
     let at : ℕ = c.taking.done.read in
     let next : ℕ = c.in-Ok.next in
-    let r = read_one rs at c.read-text.result c.in-Ok.event next c.in-Ok.is c.read-text.ensures in
+    let r = read_one rs at c.read_text.result c.in-Ok.event next c.in-Ok.is c.read_text.ensures in
     ran_more c.args.mem.now rs c.args.out.now c.taking.mem c.taking.out c.taking.done (text_of rs c.in-Ok.event)
-    c.run-one-written.new.mem c.run-one-written.new.out next c.run-one-written.result c.taking.invariant r.0 r.1
-    c.run-one-written.ensures
+    c.run_one-written.new.mem c.run_one-written.new.out next c.run_one-written.result c.taking.invariant r.0 r.1
+    c.run_one-written.ensures

@@ -5,6 +5,6 @@ use Rattle.state.proofs.Laws.{long}
 pub returns : goal.returns
 returns c =
     let z = long c.args.mem.now c.requires.held in
-    let at = c.sessions-at.ensures in
+    let at = c.sessions_at.ensures in
     let there = c.requires.there in
     record { value = omega arith; end = omega arith }

@@ -4,7 +4,7 @@ use Rattle.state.proofs.Sessions.{session_held}
 
 pub returns : goal.returns
 returns c =
-    let at : ℕ = c.session-at-at.result in
+    let at : ℕ = c.session_at-at.result in
     let k : at + 68 - at ≡ 68 = omega arith in
     ap (λ (n : ℕ). take n (drop at c.args.mem.now)) k
-    ∙ session_held c.args.mem.now c.args.client at c.requires.held c.requires.there c.session-at-at.ensures.value
+    ∙ session_held c.args.mem.now c.args.client at c.requires.held c.requires.there c.session_at-at.ensures.value

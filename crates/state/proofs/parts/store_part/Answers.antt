@@ -3,12 +3,12 @@ use Rattle.std.proofs.lemmas.List.{take_rest}
 use Rattle.state.proofs.parts.store_part.Goals as goal
 use Rattle.state.proofs.Laws.{long}
 
-pub slice-bounds-result-count : goal.slice-bounds-result-count
-slice-bounds-result-count c = let z = long c.args.mem.now c.requires.held in let at = c.store-at-at.ensures in omega arith
+pub slice_bounds-result-count : goal.slice_bounds-result-count
+slice_bounds-result-count c = let z = long c.args.mem.now c.requires.held in let at = c.store_at-at.ensures in omega arith
 
-pub slice-bounds-result-start : goal.slice-bounds-result-start
-slice-bounds-result-start c = let z = long c.args.mem.now c.requires.held in let at = c.store-at-at.ensures in omega arith
+pub slice_bounds-result-start : goal.slice_bounds-result-start
+slice_bounds-result-start c = let z = long c.args.mem.now c.requires.held in let at = c.store_at-at.ensures in omega arith
 
 pub returns : goal.returns
 returns c =
-    take_rest c.args.mem.now c.store-at-at.result ∙ ap (λ (n : ℕ). drop n c.args.mem.now) c.store-at-at.ensures
+    take_rest c.args.mem.now c.store_at-at.result ∙ ap (λ (n : ℕ). drop n c.args.mem.now) c.store_at-at.ensures

@@ -5,8 +5,8 @@ use Rattle.state.proofs.peers.forget.Goals as goal
 use Rattle.state.proofs.Laws.{long}
 use Rattle.state.proofs.PeerWords.{none_written}
 
-pub slice-bounds-clear-end : goal.slice-bounds-clear-end
-slice-bounds-clear-end c = let z = long c.args.mem.now c.requires.held in omega arith
+pub slice_bounds-clear-end : goal.slice_bounds-clear-end
+slice_bounds-clear-end c = let z = long c.args.mem.now c.requires.held in omega arith
 
 pub returns : goal.returns
 returns c =

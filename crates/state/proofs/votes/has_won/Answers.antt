@@ -9,7 +9,7 @@ use Rattle.state.proofs.VoteBits.{ones_bits}
 
 pub returns : goal.returns
 returns c =
-    c.is-majority.ensures
+    c.is_majority.ensures
     ∙ (ap (λ (l : Limits). ltb (l.servers / 2) (ones (get_or c.args.mem.now 12 0))) c.limits-all.ensures
     ∙ ap (ltb (servers_in c.args.mem.now / 2))
     (ap ones (votes_word c.args.mem.now c.requires.held) ∙ ones_bits (state_of c.args.mem.now).votes))

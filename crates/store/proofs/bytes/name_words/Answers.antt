@@ -6,8 +6,8 @@ use Rattle.store.proofs.bytes.name_words.Goals as goal
 
 pub returns : goal.returns
 returns c =
-    let b = all_bytes c.args.name.now (λ i. let f = c.type-inv.name i in omega arith) in
+    let b = all_bytes c.args.name.now (λ i. let f = c.type_inv.name i in omega arith) in
     record {
-      words = of_text 8 c.write-text.new.row c.args.name.now c.write-text.ensures (c.requires, b);
-      text = ap text_in c.write-text.ensures ∙ text_back 8 c.args.name.now (c.requires, b);
+      words = of_text 8 c.write_text.new.row c.args.name.now c.write_text.ensures (c.requires, b);
+      text = ap text_in c.write_text.ensures ∙ text_back 8 c.args.name.now (c.requires, b);
     }

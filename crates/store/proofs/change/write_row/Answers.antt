@@ -4,9 +4,9 @@ use Rattle.store.proofs.change.write_row.Goals as goal
 
 pub returns : goal.returns
 returns c =
-    let us : List ℕ = c.copy-from-slice.new.self in
-    let a = c.copy-from-slice.ensures.after in
+    let us : List ℕ = c.copy_from_slice.new.self in
+    let a = c.copy_from_slice.ensures.after in
     let l = ap length a in
-    two_parts 9 33 9 c.args.row.now us c.copy-text.new.to (omega arith) (omega arith) (omega arith) (omega arith)
-    ∙ (ap (λ (x : List ℕ). x ++ c.copy-text.new.to) a
-    ∙ ap (λ (y : List ℕ). c.args.name.now ++ y) c.copy-text.ensures)
+    two_parts 9 33 9 c.args.row.now us c.copy_text.new.to (omega arith) (omega arith) (omega arith) (omega arith)
+    ∙ (ap (λ (x : List ℕ). x ++ c.copy_text.new.to) a
+    ∙ ap (λ (y : List ℕ). c.args.name.now ++ y) c.copy_text.ensures)

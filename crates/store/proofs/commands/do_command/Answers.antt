@@ -2,20 +2,20 @@ use Rattle.std.proofs.Common.{arith}
 use Rattle.store.proofs.CommandParts.{command_long, command_name, command_expects, command_text}
 use Rattle.store.proofs.commands.do_command.Goals as goal
 
-pub slice-bounds-name-end : goal.slice-bounds-name-end
-slice-bounds-name-end c = let l = command_long c.args.command.now c.requires.command in omega arith
+pub slice_bounds-name-end : goal.slice_bounds-name-end
+slice_bounds-name-end c = let l = command_long c.args.command.now c.requires.command in omega arith
 
-pub slice-bounds-expected-end : goal.slice-bounds-expected-end
-slice-bounds-expected-end c = let l = command_long c.args.command.now c.requires.command in omega arith
+pub slice_bounds-expected-end : goal.slice_bounds-expected-end
+slice_bounds-expected-end c = let l = command_long c.args.command.now c.requires.command in omega arith
 
-pub slice-bounds-text-end : goal.slice-bounds-text-end
-slice-bounds-text-end c = let l = command_long c.args.command.now c.requires.command in omega arith
+pub slice_bounds-text-end : goal.slice_bounds-text-end
+slice_bounds-text-end c = let l = command_long c.args.command.now c.requires.command in omega arith
 
-pub do-get-requires : goal.do-get-requires
-do-get-requires c = record { ready = c.requires.ready; name = command_name c.args.command.now c.requires.command }
+pub do_get-requires : goal.do_get-requires
+do_get-requires c = record { ready = c.requires.ready; name = command_name c.args.command.now c.requires.command }
 
-pub do-put-requires : goal.do-put-requires
-do-put-requires c =
+pub do_put-requires : goal.do_put-requires
+do_put-requires c =
     record {
       ready = c.requires.ready;
       room = c.requires.room;
@@ -23,11 +23,11 @@ do-put-requires c =
       text = command_text c.args.command.now c.requires.command;
     }
 
-pub do-remove-requires : goal.do-remove-requires
-do-remove-requires c = record { ready = c.requires.ready; name = command_name c.args.command.now c.requires.command }
+pub do_remove-requires : goal.do_remove-requires
+do_remove-requires c = record { ready = c.requires.ready; name = command_name c.args.command.now c.requires.command }
 
-pub do-swap-requires : goal.do-swap-requires
-do-swap-requires c =
+pub do_swap-requires : goal.do_swap-requires
+do_swap-requires c =
     record {
       ready = c.requires.ready;
       room = c.requires.room;
@@ -36,8 +36,8 @@ do-swap-requires c =
       text = command_text c.args.command.now c.requires.command;
     }
 
-pub do-drop-if-requires : goal.do-drop-if-requires
-do-drop-if-requires c =
+pub do_drop_if-requires : goal.do_drop_if-requires
+do_drop_if-requires c =
     record {
       ready = c.requires.ready;
       name = command_name c.args.command.now c.requires.command;

@@ -6,7 +6,7 @@ use Rattle.store.proofs.find.same_at.Goals as goal
 
 pub same-requires : goal.same-requires
 same-requires c =
-    let a = ap length c.name-at.ensures in let b = ap length c.requires.name.is in
+    let a = ap length c.name_at.ensures in let b = ap length c.requires.name.is in
     let x = length_text_words 8 (Nth c.args.region.now c.args.p).key in
     let y = length_text_words 8 (text_in c.args.name.now) in
     omega arith
@@ -14,5 +14,5 @@ same-requires c =
 pub returns : goal.returns
 returns c =
     c.same.ensures
-    ∙ same_is c.name-at.result.now (Nth c.args.region.now c.args.p).key c.args.name.now c.name-at.ensures
+    ∙ same_is c.name_at.result.now (Nth c.args.region.now c.args.p).key c.args.name.now c.name_at.ensures
     (nth_good c.args.region.now c.args.p c.requires.held c.requires.within).0 c.requires.name

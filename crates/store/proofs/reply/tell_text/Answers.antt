@@ -1,5 +1,5 @@
 use Rattle.store.proofs.Writing.{length_of_text}
 use Rattle.store.proofs.reply.tell_text.Goals as goal
 
-pub copy-text-requires : goal.copy-text-requires
-copy-text-requires c = record { to = c.requires.wide; from = length_of_text 32 c.args.text.now c.requires.text }
+pub copy_text-requires : goal.copy_text-requires
+copy_text-requires c = record { to = c.requires.wide; from = length_of_text 32 c.args.text.now c.requires.text }

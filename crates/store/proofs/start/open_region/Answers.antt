@@ -12,7 +12,7 @@ returns c =
     let n : ℕ = c.args.n in
     let zs : List ℕ = c.fill.new.self in
     let l = c.fill.ensures.len in let m = length-set zs 1 n in
-    let e = start_is n (2 + n - 2) zs c.number-rows.new.index
+    let e = start_is n (2 + n - 2) zs c.number_rows.new.index
     (c.fill.ensures.after (λ y e. e) ∙ ap (λ (k : ℕ). replicate k 0) c.requires) (omega arith)
-    (c.number-rows.ensures ∙ ap (numbers 0) (part_long (set zs 1 n) 2 n (2 + n - 2) (omega arith) (omega arith))) in
+    (c.number_rows.ensures ∙ ap (numbers 0) (part_long (set zs 1 n) 2 n (2 + n - 2) (omega arith) (omega arith))) in
     record { empty = e; held = subst Held (sym e) (ok_empty n); room = ap capacity e }

@@ -26,7 +26,7 @@ four xs ys i j e h k q =
 pub loop-k-preserved : goal.loop-k-preserved
 loop-k-preserved c =
     let same = c.loop-k.auto.to in
-    ap (λ (z : List ℕ). take (4 * (c.loop-k.k + 1)) z) c.copy-four.ensures
+    ap (λ (z : List ℕ). take (4 * (c.loop-k.k + 1)) z) c.copy_four.ensures
     ∙ four c.loop-k.to c.args.from.now (4 * c.loop-k.k) (4 * (c.loop-k.k + 1)) (omega arith) (omega arith) (omega arith)
     c.loop-k.invariant
 

@@ -16,15 +16,15 @@ zeros_left n w m zs us e l f =
 by_length : (k : ℕ) (xs : List ℕ) → xs ≡ replicate k 0 → xs ≡ replicate (length xs) 0
 by_length k xs e = e ∙ ap (λ (n : ℕ). replicate n 0) (sym (ap length e ∙ length-replicate {A = ℕ} k 0))
 
-pub pack-rest-requires : goal.pack-rest-requires
-pack-rest-requires c =
+pub pack_rest-requires : goal.pack_rest-requires
+pack_rest-requires c =
     let w : ℕ = length c.args.text.now / 8 in
     let zs : List ℕ = c.fill.new.self in
-    let us : List ℕ = c.pack-whole-2.new.row in
+    let us : List ℕ = c.pack_whole-2.new.row in
     let t : List ℕ = c.args.text.now in
     let f : zs ≡ replicate (length c.args.row.now) 0 = c.fill.ensures.after (λ y e. e) in
     let n : length zs ≡ length c.args.row.now = c.fill.ensures.len in
-    let a : us ≡ cells w t = c.pack-whole-2.ensures ∙ ap (λ (n : ℕ). cells n t) (long_to zs w (omega arith)) in
+    let a : us ≡ cells w t = c.pack_whole-2.ensures ∙ ap (λ (n : ℕ). cells n t) (long_to zs w (omega arith)) in
     let l : length us ≡ w = ap length a ∙ length_cells w t in
     let p = zeros_left (length c.args.row.now) w (w - 0) zs us f l (omega arith) in
     let k = ap length p ∙ length-replicate {A = ℕ} (length c.args.row.now - (w - 0)) 0 in
@@ -36,15 +36,15 @@ returns c =
     let t : List ℕ = c.args.text.now in
     let row : List ℕ = c.fill.new.self in
     let w : ℕ = length c.args.text.now / 8 in
-    let us : List ℕ = c.pack-whole-2.new.row in
-    let vs : List ℕ = c.pack-rest.new.row in
+    let us : List ℕ = c.pack_whole-2.new.row in
+    let vs : List ℕ = c.pack_rest.new.row in
     let same : length row ≡ length c.args.row.now = c.fill.ensures.len in
-    let a : us ≡ cells w t = c.pack-whole-2.ensures ∙ ap (λ (n : ℕ). cells n t) (long_to row w (omega arith)) in
+    let a : us ≡ cells w t = c.pack_whole-2.ensures ∙ ap (λ (n : ℕ). cells n t) (long_to row w (omega arith)) in
     let l : length us ≡ w = ap length a ∙ length_cells w t in
     let z : w - 0 ≡ w = omega arith in
     let n : length (us ++ post_of 0 (w - 0) row) ≡ length row = two_long (w - 0) row us (omega arith) (omega arith) in
     let b : vs ≡ cells (length row - w) (drop (8 * w) t) =
-    c.pack-rest.ensures
+    c.pack_rest.ensures
     ∙ (ap (λ (xs : List ℕ). cells (length (take (length (us ++ post_of 0 (w - 0) row) - w) (drop w (us ++ post_of 0 (w - 0) row)))) xs)
     (take_rest t (8 * w))
     ∙ ap (λ (k : ℕ). cells k (drop (8 * w) t)) (long_from (us ++ post_of 0 (w - 0) row) w ∙ ap (λ (k : ℕ). k - w) n)) in

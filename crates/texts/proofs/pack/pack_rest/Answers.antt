@@ -18,7 +18,7 @@ returns-then-text-eq0 c = c.requires.zero ∙ nothing (length c.args.row.now) c.
 pub returns : goal.returns
 returns c =
     let n : ℕ = length c.args.row.now in
-    ap (λ (xs : List ℕ). set xs 0 c.part-word.result) c.requires.zero
-    ∙ (first n c.part-word.result c.requires.some
-    ∙ (ap (λ (w : ℕ). w ∷ replicate (n - 1) 0) c.part-word.ensures
+    ap (λ (xs : List ℕ). set xs 0 c.part_word.result) c.requires.zero
+    ∙ (first n c.part_word.result c.requires.some
+    ∙ (ap (λ (w : ℕ). w ∷ replicate (n - 1) 0) c.part_word.ensures
     ∙ cells_short n c.args.text.now c.requires.some c.requires.short))

@@ -11,10 +11,10 @@ loop-k-init c = refl
 pub loop-k-preserved : goal.loop-k-preserved
 loop-k-preserved c =
     let k : ℕ = c.loop-k.k in
-    let a = take_more_set c.loop-k.row c.loop-k.k c.front-word.result (omega arith) in
+    let a = take_more_set c.loop-k.row c.loop-k.k c.front_word.result (omega arith) in
     let b = cells_more c.loop-k.k c.args.text.now in
-    let w : c.front-word.result ≡ number_be 8 (drop (8 * c.loop-k.k) c.args.text.now) =
-    c.front-word.ensures ∙ ap (number_be 8) (take_rest c.args.text.now (8 * c.loop-k.k)) in
+    let w : c.front_word.result ≡ number_be 8 (drop (8 * c.loop-k.k) c.args.text.now) =
+    c.front_word.ensures ∙ ap (number_be 8) (take_rest c.args.text.now (8 * c.loop-k.k)) in
     cc
 
 pub returns : goal.returns

@@ -6,7 +6,7 @@ use Rattle.texts.proofs.pack.part_word.Goals as goal
 
 pub returns : goal.returns
 returns c =
-    let f = c.copy-from-slice.ensures.after in
+    let f = c.copy_from_slice.ensures.after in
     let g = number_padded 8 (8 - length c.args.text.now) c.args.text.now in
     let d = drop-replicate {X = ℕ} (length c.args.text.now) 8 0 in
     let z : length c.args.text.now - 0 ≡ length c.args.text.now = omega arith in

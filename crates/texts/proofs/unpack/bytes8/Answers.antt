@@ -4,4 +4,4 @@ use Rattle.texts.proofs.unpack.bytes8.Goals as goal
 
 pub returns : goal.returns
 unfolding bytes_be
-returns c = c.to-be-bytes.ensures ∙ rw (div-one c.args.x) refl
+returns c = c.to_be_bytes.ensures ∙ rw (div-one c.args.x) refl

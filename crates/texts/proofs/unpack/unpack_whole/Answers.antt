@@ -13,8 +13,8 @@ loop-k-init c = refl
 pub loop-k-preserved : goal.loop-k-preserved
 loop-k-preserved c =
     let k : ℕ = c.loop-k.k in
-    let ys : List ℕ = c.copy-from-slice.new.self in
-    let b : ys ≡ bytes_be 8 (get_or c.args.row.now k 0) = c.copy-from-slice.ensures.after ∙ c.bytes8.ensures in
+    let ys : List ℕ = c.copy_from_slice.new.self in
+    let b : ys ≡ bytes_be 8 (get_or c.args.row.now k 0) = c.copy_from_slice.ensures.after ∙ c.bytes8.ensures in
     let l = ap length b in let m = length_bytes_be 8 (get_or c.args.row.now k 0) in
     let p = take-put_mid (8 * k) (8 * k + 8 - 8 * k) c.loop-k.out ys (8 * (k + 1)) (omega arith) (omega arith) in
     let u = unpacked_more c.args.row.now k (omega arith) in

@@ -21,15 +21,15 @@ first n d some there =
 at_place : (bs : List ℕ) (at k : ℕ) → number_of (take 8 (drop (at + k) bs)) ≡ number_of (take 8 (drop k (drop at bs)))
 at_place bs at k = ap (λ (z : List ℕ). number_of (take 8 z)) (sym (drop-drop k at bs))
 
-pub number-at-index-requires : goal.number-at-index-requires
-number-at-index-requires c =
+pub number_at-index-requires : goal.number_at-index-requires
+number_at-index-requires c =
     let d : List ℕ = drop c.args.es.at c.args.b.now in
     let f = (first c.args.es.count d c.requires.some c.requires.there.1).0 in
     let l = length-drop c.args.es.at c.args.b.now in
     omega arith
 
-pub number-at-term-requires : goal.number-at-term-requires
-number-at-term-requires c =
+pub number_at-term-requires : goal.number_at-term-requires
+number_at-term-requires c =
     let d : List ℕ = drop c.args.es.at c.args.b.now in
     let f = (first c.args.es.count d c.requires.some c.requires.there.1).0 in
     let l = length-drop c.args.es.at c.args.b.now in
@@ -41,6 +41,6 @@ returns c =
     let at : ℕ = c.args.es.at in
     let f = (first c.args.es.count (drop at bs) c.requires.some c.requires.there.1).1 in
     record {
-      index = c.number-at-index.ensures ∙ (at_place bs at 17 ∙ f.0);
-      term = c.number-at-term.ensures ∙ (at_place bs at 25 ∙ f.1);
+      index = c.number_at-index.ensures ∙ (at_place bs at 17 ∙ f.0);
+      term = c.number_at-term.ensures ∙ (at_place bs at 25 ∙ f.1);
     }

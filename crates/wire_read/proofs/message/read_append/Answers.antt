@@ -3,57 +3,57 @@ use Rattle.wire.specs.Read.{read_append}
 use Rattle.wire_read.proofs.Reading.{exits, plainly, reads_then}
 use Rattle.wire_read.proofs.message.read_append.Goals as goal
 
-pub returns-in-err-term : goal.returns-in-err-term
+pub returns-in_err-term : goal.returns-in_err-term
 unfolding read_append
-returns-in-err-term c = exits _ c.from-residual.ensures.1 c.in-err-term.ensures
+returns-in_err-term c = exits _ c.from-residual.ensures.1 c.in_err-term.ensures
 
-pub returns-in-err-before : goal.returns-in-err-before
+pub returns-in_err-before : goal.returns-in_err-before
 unfolding read_append
-returns-in-err-before c =
-    reads_then _ c.in-ok-term.ensures (
-    exits _ c.from-residual-in-err-before.ensures.1 c.in-err-before.ensures)
+returns-in_err-before c =
+    reads_then _ c.in_ok-term.ensures (
+    exits _ c.from-residual-in_err-before.ensures.1 c.in_err-before.ensures)
 
-pub returns-in-err-before-term : goal.returns-in-err-before-term
+pub returns-in_err-before_term : goal.returns-in_err-before_term
 unfolding read_append
-returns-in-err-before-term c =
-    reads_then _ c.in-ok-term.ensures (
-    reads_then _ c.in-ok-before.ensures (
-    exits _ c.from-residual-in-err-before-term.ensures.1 c.in-err-before-term.ensures))
+returns-in_err-before_term c =
+    reads_then _ c.in_ok-term.ensures (
+    reads_then _ c.in_ok-before.ensures (
+    exits _ c.from-residual-in_err-before_term.ensures.1 c.in_err-before_term.ensures))
 
-pub returns-in-err-commit : goal.returns-in-err-commit
+pub returns-in_err-commit : goal.returns-in_err-commit
 unfolding read_append
-returns-in-err-commit c =
-    reads_then _ c.in-ok-term.ensures (
-    reads_then _ c.in-ok-before.ensures (
-    reads_then _ c.in-ok-before-term.ensures (
-    exits _ c.from-residual-in-err-commit.ensures.1 c.in-err-commit.ensures)))
+returns-in_err-commit c =
+    reads_then _ c.in_ok-term.ensures (
+    reads_then _ c.in_ok-before.ensures (
+    reads_then _ c.in_ok-before_term.ensures (
+    exits _ c.from-residual-in_err-commit.ensures.1 c.in_err-commit.ensures)))
 
-pub returns-in-err-count : goal.returns-in-err-count
+pub returns-in_err-count : goal.returns-in_err-count
 unfolding read_append
-returns-in-err-count c =
-    reads_then _ c.in-ok-term.ensures (
-    reads_then _ c.in-ok-before.ensures (
-    reads_then _ c.in-ok-before-term.ensures (
-    reads_then _ c.in-ok-commit.ensures (
-    exits _ c.from-residual-in-err-count.ensures.1 c.in-err-count.ensures))))
+returns-in_err-count c =
+    reads_then _ c.in_ok-term.ensures (
+    reads_then _ c.in_ok-before.ensures (
+    reads_then _ c.in_ok-before_term.ensures (
+    reads_then _ c.in_ok-commit.ensures (
+    exits _ c.from-residual-in_err-count.ensures.1 c.in_err-count.ensures))))
 
-pub returns-in-err-entries : goal.returns-in-err-entries
+pub returns-in_err-entries : goal.returns-in_err-entries
 unfolding read_append
-returns-in-err-entries c =
-    reads_then _ c.in-ok-term.ensures (
-    reads_then _ c.in-ok-before.ensures (
-    reads_then _ c.in-ok-before-term.ensures (
-    reads_then _ c.in-ok-commit.ensures (
-    reads_then _ c.in-ok-count.ensures (
-    exits _ c.from-residual-in-err-entries.ensures.1 c.in-err-entries.ensures)))))
+returns-in_err-entries c =
+    reads_then _ c.in_ok-term.ensures (
+    reads_then _ c.in_ok-before.ensures (
+    reads_then _ c.in_ok-before_term.ensures (
+    reads_then _ c.in_ok-commit.ensures (
+    reads_then _ c.in_ok-count.ensures (
+    exits _ c.from-residual-in_err-entries.ensures.1 c.in_err-entries.ensures)))))
 
 pub returns : goal.returns
 unfolding read_append
 returns c =
-    let p = c.in-ok-entries.ensures in
-    reads_then _ c.in-ok-term.ensures (
-    reads_then _ c.in-ok-before.ensures (
-    reads_then _ c.in-ok-before-term.ensures (
-    reads_then _ c.in-ok-commit.ensures (
-    reads_then _ c.in-ok-count.ensures (
+    let p = c.in_ok-entries.ensures in
+    reads_then _ c.in_ok-term.ensures (
+    reads_then _ c.in_ok-before.ensures (
+    reads_then _ c.in_ok-before_term.ensures (
+    reads_then _ c.in_ok-commit.ensures (
+    reads_then _ c.in_ok-count.ensures (
     reads_then _ p (plainly refl p.within.0 p.within.1))))))

@@ -8,35 +8,35 @@ use Rattle.wire_read.proofs.message.read_entries.Goals as goal
 
 pub loop-k-preserved : goal.loop-k-preserved
 loop-k-preserved c =
-    let p = c.in-ok-after.ensures in
+    let p = c.in_ok-after.ensures in
     let n : c.args.count - c.loop-k.-k - 1 ≡ c.args.count - (c.loop-k.-k + 1) = omega arith in
     let e =
     passed_more
     (c.args.count - c.loop-k.-k)
     (drop c.loop-k.next c.args.b.now)
-    (drop c.in-ok-after.after c.args.b.now)
-    (entry_of c.args.b.now c.in-ok-after.field-0-0)
+    (drop c.in_ok-after.after c.args.b.now)
+    (entry_of c.args.b.now c.in_ok-after.field-0-0)
     (omega arith)
     p.value in
     (p.within.1, cc)
 
-pub returns-in-err-after : goal.returns-in-err-after
-returns-in-err-after c =
-    let p = c.in-err-after.ensures in
+pub returns-in_err-after : goal.returns-in_err-after
+returns-in_err-after c =
+    let p = c.in_err-after.ensures in
     let x = err_from_is_err_and c.from-residual.result c.from-residual.ensures.1 in
     let e =
     passed_refused
     (c.args.count - c.loop-k.-k)
-    (length c.args.b.now - c.in-err-after.field-0.0)
+    (length c.args.b.now - c.in_err-after.field-0.0)
     (drop c.loop-k.next c.args.b.now)
     (omega arith)
     p.value in
     let s =
     from_passed_stuck
     (read_entries c.args.count (drop c.args.at c.args.b.now))
-    (length c.args.b.now - c.in-err-after.field-0.0)
+    (length c.args.b.now - c.in_err-after.field-0.0)
     (cc) in
-    rw (x.1, x.2) (refuses c.args.b.now c.in-err-after.field-0.0 s p.within)
+    rw (x.1, x.2) (refuses c.args.b.now c.in_err-after.field-0.0 s p.within)
 
 pub returns : goal.returns
 returns c =

@@ -4,19 +4,19 @@ use Rattle.wire_read.proofs.Laws.{perhaps_bad}
 use Rattle.wire_read.proofs.Reading.{tag_exits, tagged, tag_refused, plainly}
 use Rattle.wire_read.proofs.read.read_perhaps.Goals as goal
 
-pub returns-in-err-tag : goal.returns-in-err-tag
+pub returns-in_err-tag : goal.returns-in_err-tag
 unfolding read_perhaps
-returns-in-err-tag c = tag_exits read_perhaps _ c.from-residual.ensures.1 c.in-err-tag.ensures refl
+returns-in_err-tag c = tag_exits read_perhaps _ c.from-residual.ensures.1 c.in_err-tag.ensures refl
 
 pub returns-in-0 : goal.returns-in-0
 unfolding read_perhaps
 returns-in-0 c =
-    tagged read_perhaps 0 c.in-ok-tag.ensures c.in-0.is (plainly refl tt c.in-ok-tag.ensures.within.1)
+    tagged read_perhaps 0 c.in_ok-tag.ensures c.in-0.is (plainly refl tt c.in_ok-tag.ensures.within.1)
 
 pub returns-in-1 : goal.returns-in-1
 unfolding read_perhaps
-returns-in-1 c = tagged read_perhaps 1 c.in-ok-tag.ensures c.in-1.is c.read-some.ensures
+returns-in-1 c = tagged read_perhaps 1 c.in_ok-tag.ensures c.in-1.is c.read_some.ensures
 
 pub returns-in-default : goal.returns-in-default
 returns-in-default c =
-    tag_refused read_perhaps c.requires c.in-ok-tag.ensures (perhaps_bad c.in-ok-tag.tag _ (omega arith))
+    tag_refused read_perhaps c.requires c.in_ok-tag.ensures (perhaps_bad c.in_ok-tag.tag _ (omega arith))

@@ -6,8 +6,8 @@ pub returns : goal.returns
 returns c =
     record {
       bytes =
-          writes_then c.write-byte-n0.ensures.bytes
-          (writes_then c.write-byte-n1.ensures.bytes
-          c.write-bytes.ensures.bytes);
+          writes_then c.write_byte-n0.ensures.bytes
+          (writes_then c.write_byte-n1.ensures.bytes
+          c.write_bytes.ensures.bytes);
       next = omega arith;
     }

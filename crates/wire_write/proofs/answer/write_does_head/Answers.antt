@@ -6,7 +6,7 @@ pub returns : goal.returns
 returns c =
     record {
       bytes =
-          writes_then c.write-byte-n0.ensures.bytes
-          c.write-number.ensures.bytes;
+          writes_then c.write_byte-n0.ensures.bytes
+          c.write_number.ensures.bytes;
       next = omega arith;
     }

@@ -6,9 +6,9 @@ pub returns : goal.returns
 returns c =
     record {
       bytes =
-          writes_then c.write-byte-n0.ensures.bytes
-          (writes_then c.write-number-n1.ensures.bytes
-          (writes_then c.write-number-n2.ensures.bytes
-          c.write-number.ensures.bytes));
+          writes_then c.write_byte-n0.ensures.bytes
+          (writes_then c.write_number-n1.ensures.bytes
+          (writes_then c.write_number-n2.ensures.bytes
+          c.write_number.ensures.bytes));
       next = omega arith;
     }

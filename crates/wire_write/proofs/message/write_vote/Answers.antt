@@ -6,8 +6,8 @@ pub returns : goal.returns
 returns c =
     record {
       bytes =
-          writes_then c.write-byte-n0.ensures.bytes
-          (writes_then c.write-number-n1.ensures.bytes
-          c.write-bool.ensures.bytes);
+          writes_then c.write_byte-n0.ensures.bytes
+          (writes_then c.write_number-n1.ensures.bytes
+          c.write_bool.ensures.bytes);
       next = omega arith;
     }

@@ -6,6 +6,6 @@ pub returns : goal.returns
 returns c =
     let t = c.args.t.now in
     record {
-      bytes = writes_part c.args.at (length t) t c.args.out.now _ c.copy-from-slice.ensures.after refl c.requires;
+      bytes = writes_part c.args.at (length t) t c.args.out.now _ c.copy_from_slice.ensures.after refl c.requires;
       next = refl;
     }

@@ -4,4 +4,4 @@ use Rattle.wire_write.proofs.put.write_text.Goals as goal
 
 pub returns : goal.returns
 returns c =
-    record { bytes = writes_then c.write-number-next.ensures.bytes c.write-bytes.ensures.bytes; next = omega arith }
+    record { bytes = writes_then c.write_number-next.ensures.bytes c.write_bytes.ensures.bytes; next = omega arith }

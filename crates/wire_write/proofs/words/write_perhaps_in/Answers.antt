@@ -7,8 +7,8 @@ use Rattle.wire_write.proofs.Putting.{writes_as, writes_then}
 use Rattle.wire_write.proofs.Texts.{length_text, length_unpack, perhaps_some}
 use Rattle.wire_write.proofs.words.write_perhaps_in.Goals as goal
 
-pub write-sized-requires : goal.write-sized-requires
-write-sized-requires c =
+pub write_sized-requires : goal.write_sized-requires
+write_sized-requires c =
     let ws = c.args.words.now in
     let t : List ℕ = take (get_or ws 0 0 - 1) (unpacked (drop 1 ws)) in
     let some = c.requires.some in
@@ -30,4 +30,4 @@ returns c =
     let left = c.if-words-eq0.false in
     let p = perhaps_some ws (omega arith) in
     let e = ap (λ (z : List ℕ). 1 ∷ write_text (take (get_or ws 0 0 - 1) (unpacked z))) (take_rest ws 1) in
-    writes_as (e ∙ sym (ap write_perhaps p)) (writes_then c.write-byte-next.ensures.bytes c.write-sized.ensures)
+    writes_as (e ∙ sym (ap write_perhaps p)) (writes_then c.write_byte-next.ensures.bytes c.write_sized.ensures)

@@ -10,4 +10,4 @@ returns c =
     let t = take c.args.len (unpacked c.args.words.now) in
     let u = length_unpack c.args.len c.args.words.now c.requires.there in
     writes_as (ap (λ (k : ℕ). write_number k ++ t) (sym u))
-    (writes_then c.write-number-next.ensures.bytes c.write-unpacked.ensures)
+    (writes_then c.write_number-next.ensures.bytes c.write_unpacked.ensures)

@@ -6,8 +6,8 @@ use Rattle.wire_write.proofs.Putting.{writes_as}
 use Rattle.wire_write.proofs.Texts.{length_text, length_text_in}
 use Rattle.wire_write.proofs.words.write_text_in.Goals as goal
 
-pub write-sized-requires : goal.write-sized-requires
-write-sized-requires c =
+pub write_sized-requires : goal.write_sized-requires
+write_sized-requires c =
     let ws = c.args.words.now in
     let a = length_text (text_in ws) in
     let b = length_text_in ws c.requires.some c.requires.sound in
@@ -20,4 +20,4 @@ write-sized-requires c =
 pub returns : goal.returns
 returns c =
     let ws = c.args.words.now in
-    writes_as (ap (λ (z : List ℕ). write_text (take (get_or ws 0 0) (unpacked z))) (take_rest ws 1)) c.write-sized.ensures
+    writes_as (ap (λ (z : List ℕ). write_text (take (get_or ws 0 0) (unpacked z))) (take_rest ws 1)) c.write_sized.ensures
