@@ -58,26 +58,27 @@ def read(path):
         return f.read()
 
 
-def turn_word(word, members):
-    """A token, which may be a path: its head, and members that are fields of the repository's records."""
+def turn_word(word, members, modules=()):
+    """A token, which may be a path: its head, what stands after a module, and members that are fields of the repository's records."""
     if word in NAMES:
         return NAMES[word]
     parts = re.split(r"(\.)", word)
     for i, p in enumerate(parts):
-        if p in NAMES and (i == 0 or p in members):
+        if p in NAMES and (i == 0 or p in members or (i == 2 and parts[0] in modules)):
             parts[i] = NAMES[p]
     return "".join(parts)
 
 
-def turn(text, members):
-    return WORD.sub(lambda m: turn_word(m.group(), members), text)
+def turn(text, members, modules=()):
+    return WORD.sub(lambda m: turn_word(m.group(), members, modules), text)
 
 
 def turn_antt(text, members):
+    modules = set(re.findall(r"(?m)^use [^{\n]* as (\w+)", text)) - {"goal", "given"}
     out = []
     for line in text.split("\n"):
         code, dashes, comment = line.partition("--")
-        out.append(turn(code, members) + dashes + turn_quoted(comment, members))
+        out.append(turn(code, members, modules) + dashes + turn_quoted(comment, members))
     return "\n".join(out)
 
 

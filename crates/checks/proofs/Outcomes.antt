@@ -81,7 +81,7 @@ number_of true false v = refl
 number_of false w v = refl
 
 row_number : (l : server.Limits) (m : server.Message) → pick (in_row l m) 0 3 ≡ out_of_row l m
-row_number l (server.ask-vote t i u) = refl
+row_number l (server.ask_vote t i u) = refl
 row_number l (server.vote t ok) = refl
 row_number l (server.append t i u es c) = refl
 row_number l (server.appended t i ok) = refl

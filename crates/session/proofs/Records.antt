@@ -20,7 +20,7 @@ use Rattle.session.specs.Running.{answer_length, RanOne}
 pub length_answer : (a : server.Answer) → answer_length (answer_of a) ≡ length (write_answer a)
 unfolding write_number
 length_answer (server.refused j k) = refl
-length_answer server.not-leader = refl
+length_answer server.not_leader = refl
 length_answer (server.does ss ls) = refl
 
 -- the answer stands in a part from at + 8 on, then its length is written before it

@@ -26,7 +26,7 @@ command_of bs (Get k) = store.get (text_of bs k)
 command_of bs (Put k v) = store.put (text_of bs k) (text_of bs v)
 command_of bs (Remove k) = store.remove (text_of bs k)
 command_of bs (Swap k e v) = store.swap (text_of bs k) (perhaps_of bs e) (text_of bs v)
-command_of bs (DropIf k v) = store.drop-if (text_of bs k) (text_of bs v)
+command_of bs (DropIf k v) = store.drop_if (text_of bs k) (text_of bs v)
 
 abbrev pub entry_of : List ℕ → Entry → server.Entry
 entry_of bs e =
@@ -57,7 +57,7 @@ abbrev pub entries_of : List ℕ → Entries → List server.Entry
 entries_of bs es = list_read (read_entries es.count (drop es.at bs))
 
 abbrev pub message_of : List ℕ → Message → server.Message
-message_of bs (AskVote t i u) = server.ask-vote t i u
+message_of bs (AskVote t i u) = server.ask_vote t i u
 message_of bs (Vote t ok) = server.vote t ok
 message_of bs (Append t i u c es) = server.append t i u (entries_of bs es) c
 message_of bs (Appended t i ok) = server.appended t i ok

@@ -34,18 +34,18 @@ read_does n m out =
 
 abbrev pub as_answer : Read server.Answer → server.Answer
 as_answer (got a r) = a
-as_answer (stuck k) = server.not-leader
+as_answer (stuck k) = server.not_leader
 
 -- THE ANSWER of the code's answer, with the bytes of out
 abbrev pub means_answer : List ℕ → Answer → server.Answer
 means_answer out (Refused j k) = server.refused j k
-means_answer out NotLeader = server.not-leader
+means_answer out NotLeader = server.not_leader
 means_answer out (Does n m len) = as_answer (read_does n m out)
 
 -- the code's answer for one of the definitions
 abbrev pub answer_of : server.Answer → Answer
 answer_of (server.refused j k) = Refused j k
-answer_of server.not-leader = NotLeader
+answer_of server.not_leader = NotLeader
 answer_of (server.does ss ls) = Does (length ss) (length ls) (length (write_answer (server.does ss ls)))
 
 -- an answer that was written, with the values that go with it, means itself

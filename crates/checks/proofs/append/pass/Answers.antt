@@ -25,7 +25,7 @@ returns-in_err-entry c =
     let n = c.next_entry.ensures in
     let bs = c.args.b.now in
     let rest = c.loop-rest.rest in
-    c.from-residual.ensures
+    c.from_residual.ensures
     ∙ sym (turn_refused can_do c.args.l bs (c.loop-rest.row && in_a_row c.args.before (entries_of bs rest)) rest
     c.next_entry.result.1 c.next_entry.result.0 n.entry n.value c.in_err-entry.ensures)
     ∙ c.loop-rest.invariant.1

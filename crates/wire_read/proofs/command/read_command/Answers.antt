@@ -6,7 +6,7 @@ use Rattle.wire_read.proofs.command.read_command.Goals as goal
 
 pub returns-in_err-tag : goal.returns-in_err-tag
 unfolding read_command
-returns-in_err-tag c = tag_exits read_command _ c.from-residual.ensures.1 c.in_err-tag.ensures refl
+returns-in_err-tag c = tag_exits read_command _ c.from_residual.ensures.1 c.in_err-tag.ensures refl
 
 pub returns-in-0 : goal.returns-in-0
 unfolding read_command
@@ -28,6 +28,6 @@ pub returns-in-4 : goal.returns-in-4
 unfolding read_command
 returns-in-4 c = tagged read_command 4 c.in_ok-tag.ensures c.in-4.is c.read_drop_if.ensures
 
-pub returns-in-default : goal.returns-in-default
-returns-in-default c =
+pub returns-in_default : goal.returns-in_default
+returns-in_default c =
     tag_refused read_command c.requires c.in_ok-tag.ensures (command_bad c.in_ok-tag.tag _ (omega arith))

@@ -6,7 +6,7 @@ use Rattle.wire_read.proofs.event.read_front.Goals as goal
 
 pub returns-in_err-tag : goal.returns-in_err-tag
 unfolding read_front
-returns-in_err-tag c = tag_exits read_front _ c.from-residual.ensures.1 c.in_err-tag.ensures refl
+returns-in_err-tag c = tag_exits read_front _ c.from_residual.ensures.1 c.in_err-tag.ensures refl
 
 pub returns-in-0 : goal.returns-in-0
 unfolding read_front
@@ -26,6 +26,6 @@ unfolding read_front
 returns-in-3 c =
     tagged read_front 3 c.in_ok-tag.ensures c.in-3.is (plainly refl tt c.in_ok-tag.ensures.within.1)
 
-pub returns-in-default : goal.returns-in-default
-returns-in-default c =
+pub returns-in_default : goal.returns-in_default
+returns-in_default c =
     tag_refused read_front c.requires c.in_ok-tag.ensures (front_bad c.in_ok-tag.tag _ (omega arith))

@@ -9,10 +9,10 @@ use Rattle.wire_read.proofs.message.read_entries.Goals as goal
 pub loop-k-preserved : goal.loop-k-preserved
 loop-k-preserved c =
     let p = c.in_ok-after.ensures in
-    let n : c.args.count - c.loop-k.-k - 1 ≡ c.args.count - (c.loop-k.-k + 1) = omega arith in
+    let n : c.args.count - c.loop-k._k - 1 ≡ c.args.count - (c.loop-k._k + 1) = omega arith in
     let e =
     passed_more
-    (c.args.count - c.loop-k.-k)
+    (c.args.count - c.loop-k._k)
     (drop c.loop-k.next c.args.b.now)
     (drop c.in_ok-after.after c.args.b.now)
     (entry_of c.args.b.now c.in_ok-after.field-0-0)
@@ -23,10 +23,10 @@ loop-k-preserved c =
 pub returns-in_err-after : goal.returns-in_err-after
 returns-in_err-after c =
     let p = c.in_err-after.ensures in
-    let x = err_from_is_err_and c.from-residual.result c.from-residual.ensures.1 in
+    let x = err_from_is_err_and c.from_residual.result c.from_residual.ensures.1 in
     let e =
     passed_refused
-    (c.args.count - c.loop-k.-k)
+    (c.args.count - c.loop-k._k)
     (length c.args.b.now - c.in_err-after.field-0.0)
     (drop c.loop-k.next c.args.b.now)
     (omega arith)
@@ -40,8 +40,8 @@ returns-in_err-after c =
 
 pub returns : goal.returns
 returns c =
-    let z : c.args.count - c.loop-k.-k ≡ 0 = omega arith in
-    let e = passed_none (c.args.count - c.loop-k.-k) (drop c.loop-k.next c.args.b.now) z in
+    let z : c.args.count - c.loop-k._k ≡ 0 = omega arith in
+    let e = passed_none (c.args.count - c.loop-k._k) (drop c.loop-k.next c.args.b.now) z in
     let s =
     from_passed_got
     (read_entries c.args.count (drop c.args.at c.args.b.now))

@@ -7,4 +7,4 @@ use Rattle.wire_read.proofs.message.read_entries.Given as goal
 abbrev pub invariant-loop-k : goal.invariant-loop-k
 invariant-loop-k l =
     (l.next ≤ length l.b)
-    × (passed (read_entries (l.count - l.-k) (drop l.next l.b)) ≡ passed (read_entries l.count (drop l.at l.b)))
+    × (passed (read_entries (l.count - l._k) (drop l.next l.b)) ≡ passed (read_entries l.count (drop l.at l.b)))

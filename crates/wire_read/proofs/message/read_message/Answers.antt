@@ -6,7 +6,7 @@ use Rattle.wire_read.proofs.message.read_message.Goals as goal
 
 pub returns-in_err-tag : goal.returns-in_err-tag
 unfolding read_message
-returns-in_err-tag c = tag_exits read_message _ c.from-residual.ensures.1 c.in_err-tag.ensures refl
+returns-in_err-tag c = tag_exits read_message _ c.from_residual.ensures.1 c.in_err-tag.ensures refl
 
 pub returns-in-0 : goal.returns-in-0
 unfolding read_message
@@ -24,6 +24,6 @@ pub returns-in-3 : goal.returns-in-3
 unfolding read_message
 returns-in-3 c = tagged read_message 3 c.in_ok-tag.ensures c.in-3.is c.read_appended.ensures
 
-pub returns-in-default : goal.returns-in-default
-returns-in-default c =
+pub returns-in_default : goal.returns-in_default
+returns-in_default c =
     tag_refused read_message c.requires c.in_ok-tag.ensures (message_bad c.in_ok-tag.tag _ (omega arith))

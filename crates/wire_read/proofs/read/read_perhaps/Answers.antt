@@ -6,7 +6,7 @@ use Rattle.wire_read.proofs.read.read_perhaps.Goals as goal
 
 pub returns-in_err-tag : goal.returns-in_err-tag
 unfolding read_perhaps
-returns-in_err-tag c = tag_exits read_perhaps _ c.from-residual.ensures.1 c.in_err-tag.ensures refl
+returns-in_err-tag c = tag_exits read_perhaps _ c.from_residual.ensures.1 c.in_err-tag.ensures refl
 
 pub returns-in-0 : goal.returns-in-0
 unfolding read_perhaps
@@ -17,6 +17,6 @@ pub returns-in-1 : goal.returns-in-1
 unfolding read_perhaps
 returns-in-1 c = tagged read_perhaps 1 c.in_ok-tag.ensures c.in-1.is c.read_some.ensures
 
-pub returns-in-default : goal.returns-in-default
-returns-in-default c =
+pub returns-in_default : goal.returns-in_default
+returns-in_default c =
     tag_refused read_perhaps c.requires c.in_ok-tag.ensures (perhaps_bad c.in_ok-tag.tag _ (omega arith))

@@ -6,7 +6,7 @@ use Rattle.wire_read.proofs.read.read_text.Goals as goal
 
 pub returns-in_err-len : goal.returns-in_err-len
 unfolding read_text
-returns-in_err-len c = exits _ c.from-residual.ensures.1 c.in_err-len.ensures
+returns-in_err-len c = exits _ c.from_residual.ensures.1 c.in_err-len.ensures
 
 pub returns-then-len-b : goal.returns-then-len-b
 unfolding read_text
