@@ -1,6 +1,6 @@
 -- Entries one after the other: their fields, their row, and the code's parts that stand for them.
 use Rattle.std.proofs.Common.{◌≡◌, ℕ, zero, suc, ◌+◌, ◌-◌, ◌<◌, Bool, true, false, ◌&&◌, eqb, ltb, leb, List, [], ◌∷◌, length, drop, Some, None, sym, refl, ap, ◌∙◌, arith}
-use mathlib.Core.Bool.{and_assoc, and_true}
+use mathlib.Core.Bool.{and_assoc, and-true}
 use Rattle.std.proofs.lemmas.List.{length-take-le, length-drop}
 use Rattle.std.proofs.lemmas.Bool.{both_ways}
 use Rattle.servers.specs.Server as server
@@ -36,7 +36,7 @@ brief_means bs (Put k v) h = rw (text_long bs k h.0, text_long bs v h.1) refl
 brief_means bs (Remove k) h = rw (text_long bs k h) refl
 brief_means bs (Swap k None v) h = rw (text_long bs k h.0, text_long bs v h.2) refl
 brief_means bs (Swap k (Some e) v) h =
-    rw (text_long bs k h.0, text_long bs e h.1, text_long bs v h.2, and_true (leb e.len 256), and_true (leb e.len 256)) refl
+    rw (text_long bs k h.0, text_long bs e h.1, text_long bs v h.2, and-true (leb e.len 256), and-true (leb e.len 256)) refl
 brief_means bs (DropIf k v) h = rw (text_long bs k h.0, text_long bs v h.1) refl
 
 pub sound_means :
@@ -75,7 +75,7 @@ pub pass_none :
     (l : server.Limits) (i : ℕ) (w : Bool) (es : List server.Entry) → es ≡ [] →
     if_good (good_entries l es) (w && in_a_row i es) ≡ Some w
 unfolding in_a_row clients_there all_short_entries terms_below
-pass_none l i w es e = rw (e, and_true w) refl
+pass_none l i w es e = rw (e, and-true w) refl
 
 -- entries that are there are as many as they say
 read_first :

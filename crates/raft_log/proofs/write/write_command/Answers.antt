@@ -4,8 +4,8 @@ use Rattle.raft_log.proofs.Written.{length_part}
 use Rattle.raft_log.proofs.Rooms.{room_first, room_next}
 use Rattle.raft_log.proofs.Commands.{first_of, name_bytes, expected_bytes, last_bytes, room_name, command_written}
 
-pub write-text_in-expecting-requires : goal.write-text_in-expecting-requires
-write-text_in-expecting-requires c =
+pub write_text_in-expecting-requires : goal.write_text_in-expecting-requires
+write_text_in-expecting-requires c =
     let ws : List ℕ = c.args.words.now in
     let size = c.requires.size in
     let long = length_part 1 9 ws (omega arith) in
@@ -29,9 +29,9 @@ write_expected-last-requires c =
     record {
       size = length_part 10 33 ws (omega arith);
       sound = omega arith;
-      room = room_first (expected_bytes ws) (last_bytes ws) c.write-text_in-expecting.result
-          (length c.write-text_in-expecting.new.out)
-          (room_next (expected_bytes ws ++ last_bytes ws) room c.write-text_in-expecting.ensures);
+      room = room_first (expected_bytes ws) (last_bytes ws) c.write_text_in-expecting.result
+          (length c.write_text_in-expecting.new.out)
+          (room_next (expected_bytes ws ++ last_bytes ws) room c.write_text_in-expecting.ensures);
     }
 
 pub write_last-requires : goal.write_last-requires
@@ -44,11 +44,11 @@ write_last-requires c =
     record {
       size = length_part 43 33 ws (omega arith);
       sound = omega arith;
-      room = room_next (last_bytes ws) (room_next (expected_bytes ws ++ last_bytes ws) room c.write-text_in-expecting.ensures)
+      room = room_next (last_bytes ws) (room_next (expected_bytes ws ++ last_bytes ws) room c.write_text_in-expecting.ensures)
           c.write_expected-last.ensures;
     }
 
 pub returns : goal.returns
 returns c =
     command_written c.args.words.now c.requires.sound.tag c.write_byte-named.ensures.bytes
-    c.write-text_in-expecting.ensures c.write_expected-last.ensures c.write_last.ensures
+    c.write_text_in-expecting.ensures c.write_expected-last.ensures c.write_last.ensures
