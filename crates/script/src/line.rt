@@ -82,7 +82,7 @@ fn text_at(line: &[u8], at: usize, event: &mut Vec<u8>, what: &'static str) -> R
     ensures { IfOk result (λ to. to ≤ length line.now) }
 {
     let Word { from, to } = next(line, at);
-    let mut bytes = Vec::new(event.allocator());
+    let mut bytes = Vec::new(*event.allocator());
     if from == to || !push_text(&mut bytes, &line[from..to])? {
         return Err(Fault::Expected(what));
     }
@@ -97,7 +97,7 @@ fn perhaps_at(line: &[u8], at: usize, event: &mut Vec<u8>) -> Result<usize, Faul
     ensures { IfOk result (λ to. to ≤ length line.now) }
 {
     let Word { from, to } = next(line, at);
-    if &line[from..to] == b"\\-" {
+    if &line[from..to] == b"\\-".as_slice() {
         event.push(0)?;
         return Ok(to);
     }
@@ -117,15 +117,15 @@ fn command_at(line: &[u8], at: usize, event: &mut Vec<u8>) -> Result<usize, Faul
 {
     let Word { from, to } = next(line, at);
     let word = &line[from..to];
-    let tag = if word == b"get" {
+    let tag = if word == b"get".as_slice() {
         0
-    } else if word == b"put" {
+    } else if word == b"put".as_slice() {
         1
-    } else if word == b"remove" {
+    } else if word == b"remove".as_slice() {
         2
-    } else if word == b"swap" {
+    } else if word == b"swap".as_slice() {
         3
-    } else if word == b"drop-if" {
+    } else if word == b"drop-if".as_slice() {
         4
     } else {
         return Err(Fault::Expected("get, put, remove, swap or drop-if"));
@@ -168,16 +168,16 @@ fn at_server(line: &[u8], at: usize, server: u64, event: &mut Vec<u8>) -> Result
 {
     let Word { from, to } = next(line, at);
     let word = &line[from..to];
-    if word == b"time" {
+    if word == b"time".as_slice() {
         return ended(line, to, Line::Time { server });
     }
-    if word == b"restart" {
+    if word == b"restart".as_slice() {
         return ended(line, to, Line::Restart { server });
     }
-    if word == b"ask" {
+    if word == b"ask".as_slice() {
         return ask_at(line, to, server, event);
     }
-    if word == b"bytes" {
+    if word == b"bytes".as_slice() {
         return bytes_at(line, to, server, event);
     }
     Err(Fault::Expected("time, ask, restart or bytes"))
@@ -208,14 +208,14 @@ pub fn read_line(line: &[u8], event: &mut Vec<u8>) -> Result<Line, Fault> {
     if from == to || line[from] == b'#' {
         return Ok(Line::Nothing);
     }
-    if word == b"group" {
+    if word == b"group".as_slice() {
         return group_at(line, to);
     }
-    if word == b"come" {
+    if word == b"come".as_slice() {
         let (letter, at) = number_at(line, to, "a letter's number")?;
         return ended(line, at, Line::Come { letter });
     }
-    if word == b"show" {
+    if word == b"show".as_slice() {
         let (server, at) = number_at(line, to, "a server's number")?;
         return ended(line, at, Line::Show { server });
     }

@@ -39,7 +39,7 @@ pub fn push_hex(out: &mut Vec<u8>, digits: &[u8]) -> Result<bool, AllocError> {
 
 // The bytes that a word stands for, put at the end of `out`; false where it stands for none.
 pub fn push_text(out: &mut Vec<u8>, word: &[u8]) -> Result<bool, AllocError> {
-    if word == b"\\." {
+    if word == b"\\.".as_slice() {
         return Ok(true);
     }
     let mut i = 0;
