@@ -62,6 +62,17 @@ next_then f m m₁ m₂ s a b =
       region = b.region ∙ a.region;
     }
 
+-- one change after the other, by what the second makes of any state, and where they lead together
+pub then_to : (f : State → State) (m m₁ m₂ : List ℕ) (s t : State)
+    → Becomes m m₁ s → Becomes m₁ m₂ (f (state_of m₁)) → f s ≡ t → Becomes m m₂ t
+then_to f m m₁ m₂ s t a b e =
+    record {
+      held = b.held;
+      state = b.state ∙ (ap f a.state ∙ e);
+      limits = b.limits ∙ a.limits;
+      region = b.region ∙ a.region;
+    }
+
 -- top: the memory is what the program of the promises leaves
 pub called_from : (m m' : List ℕ) (e : Event)
     → Turns m m' (after (limits_of m) (state_of m) e) (region_after (limits_of m) (state_of m) e (region_in m)) → m' ≡ called serves m e
