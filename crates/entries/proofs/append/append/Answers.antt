@@ -1,9 +1,9 @@
-use Rattle.std.proofs.Common.{◌≡◌, ℕ, true, List, [], ◌∷◌, sym, ap, ◌∙◌}
-use Rattle.servers.specs.Server.{Entry, Letter, Message, appended, State, last_index, has_new, appends, append_reply, advanced, following}
+use Rattle.std.proofs.Common.{◌≡◌, ℕ, true, false, List, [], ◌∷◌, sym, ap, ◌∙◌}
+use Rattle.servers.specs.Server.{Entry, Letter, Message, appended, State, has_new, appends, append_reply, advanced, following}
 use Rattle.wire_read.specs.Means.{entries_of}
-use Rattle.servers.proofs.Tests.{pick_true}
+use Rattle.servers.proofs.Tests.{pick_true, pick_false}
 use Rattle.state.specs.Held.{state_of}
-use Rattle.state.proofs.Laws.{next_then, said}
+use Rattle.state.proofs.Laws.{stays, next_then, said}
 use Rattle.entries.specs.Steps.{extended_if, accepts, accepted}
 use Rattle.entries.specs.declared.append.Last.{Last}
 use Rattle.entries.proofs.append.append.Goals as goal
@@ -23,6 +23,18 @@ extend_by_new-requires c =
       can = c.requires.can;
       last = c.last_of-last.ensures;
     }
+
+-- nothing is changed where they are not taken
+pub returns-then-not-taken-clause-state : goal.returns-then-not-taken-clause-state
+returns-then-not-taken-clause-state c =
+    let m : List ℕ = c.args.mem.now in
+    let s : State = state_of m in
+    let es : List Entry = entries_of c.args.b.now c.args.entries in
+    let no : accepts s c.args.term c.args.before c.args.before_term ≡ false = sym c.accepts-taken.ensures ∙ c.if-not-taken.true in
+    let same : appends s c.args.from c.args.term c.args.before c.args.before_term es c.args.commit ≡ s =
+    appends_is s c.args.from c.args.term c.args.before c.args.before_term es c.args.commit c.requires.held.fits.1.row
+    ∙ pick_false _ (accepted s c.args.from c.args.term c.args.before es c.args.commit) s no in
+    said m m _ _ (sym same) (stays m c.requires.held)
 
 pub returns : goal.returns
 returns c =
