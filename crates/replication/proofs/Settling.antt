@@ -1,9 +1,9 @@
 -- Counting who has an entry, and going down the log from its end.
-use Rattle.std.proofs.Common.{◌≡◌, ℕ, zero, suc, ◌+◌, ◌-◌, ◌*◌, ◌/◌, ◌<◌, ◌≤◌, Bool, true, false, ◌&&◌, eqb, ltb, leb, List, [], ◌∷◌, length, get_or, take, drop, refl, ◌∙◌, arith}
+use Rattle.std.proofs.Common.{◌≡◌, ℕ, zero, suc, ◌+◌, ◌-◌, ◌*◌, ◌/◌, ◌<◌, ◌≤◌, Bool, true, false, ◌&&◌, eqb, ltb, leb, List, [], ◌∷◌, length, get_or, take, drop, sym, refl, ap, ◌∙◌, arith}
 use Rattle.std.proofs.lemmas.Bool.{and_from, and_left, and_right, eq-eqb, lt-ltb, le-ltb, le-leb, lt-leb}
 use Rattle.std.proofs.lemmas.List.{drop_more, drop_all}
 use Rattle.servers.specs.Store.{pick}
-use Rattle.servers.specs.Server.{Entry, Limits, State, nth, have_it, settled_to}
+use Rattle.servers.specs.Server.{Entry, Limits, State, nth, have_it, with_commit, settled_to, settles}
 use Rattle.raft_log.specs.Rows.{log_in, row_in}
 use Rattle.raft_log.specs.Places.{entry_in}
 use Rattle.raft_log.proofs.Places.{log_in_more}
@@ -54,3 +54,10 @@ unfolding settled_to log_in row_in
 settled_none l s ws zero k = refl
 settled_none l s ws (suc i) k =
     pick_false _ _ _ (and_left _ _ (and_right _ _ (le-ltb s.commit (suc i) k))) ∙ settled_none l s ws i (omega arith)
+
+-- a leader that settles, and one that follows
+pub settles_leading : (l : Limits) (s : State) (c : ℕ) → c ≡ settled_to l s s.log → eqb s.kind 2 ≡ true → with_commit c s ≡ settles l s
+settles_leading l s c e k = ap (λ (i : ℕ). with_commit i s) e ∙ sym (pick_true _ _ s k)
+
+pub settles_following : (l : Limits) (s : State) → eqb s.kind 2 ≡ false → s ≡ settles l s
+settles_following l s k = sym (pick_false _ (with_commit (settled_to l s s.log) s) s k)
