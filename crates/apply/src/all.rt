@@ -11,7 +11,6 @@ ghost use Rattle.apply.specs.InMemory.{entry_of, told_of, all_told, region_reach
 use crate::one::do_one;
 use crate::tell::tell;
 use state::head;
-use state::numbers::larger;
 
 // How many clients were told, and the place after what they are told.
 #[derive(Clone, Copy)]
@@ -52,6 +51,12 @@ fn apply_next(mem: &mut [u64], index: usize, out: &mut [u8], told: Told) -> Told
         },
         None => told,
     }
+}
+
+fn larger(a: u64, b: u64) -> u64
+    ensures { result ≡ at_least a b }
+{
+    if a < b { b } else { a }
 }
 
 // What is committed counts as applied, also past the end of the log.

@@ -1,12 +1,11 @@
 // Another server says whether it has entries up to an index. If it has, its match and next index go up; if it lacks what stands
 // before them, its next index goes down by one, to try again with more.
 ghost use Rattle.std.specs.Prelude.{◌≡◌, ℕ, ◌+◌, ◌-◌, ◌<◌, ◌≤◌, Bool, true, false};
-ghost use Rattle.servers.specs.Server.{State, last_of_all, hears_appended};
+ghost use Rattle.servers.specs.Server.{State, at_least, last_of_all, hears_appended};
 ghost use Rattle.memory.specs.Layout.{servers_in, room_in};
 ghost use Rattle.state.specs.Held.{Held, Becomes, limits_of, state_of};
 ghost use Rattle.replication.specs.Heard.{heard_from, has_state, lacks_state};
 
-use state::numbers::larger;
 use state::{head, peers};
 
 #[derive(Clone, Copy)]
@@ -17,6 +16,12 @@ pub enum Heard {
     Has(u64),
     // that it lacks what stands before them
     Lacks,
+}
+
+fn larger(a: u64, b: u64) -> u64
+    ensures { result ≡ at_least a b }
+{
+    if a < b { b } else { a }
 }
 
 fn hear(own: u64, term: u64, index: u64, ok: bool) -> Heard

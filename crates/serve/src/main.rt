@@ -13,6 +13,7 @@ use session::run::{Taken, run};
 use shell::arguments::limits;
 use shell::feed::{ended, fill_if, keep};
 use std::io::{Read, Write};
+use std::process::ExitCode;
 use std::{env, fs};
 
 const CHUNK: usize = 65_536;
@@ -82,11 +83,11 @@ fn run_with(rt: &HostRuntime) -> anyhow::Result<()> {
         args.next(),
         args.next(),
     ) else {
-        return Err(USAGE.into());
+        return Err(anyhow!(USAGE));
     };
     let file = args.next();
     if args.next().is_some() {
-        return Err(USAGE.into());
+        return Err(anyhow!(USAGE));
     }
     let l = match limits(
         servers.as_str(),
@@ -106,12 +107,13 @@ fn run_with(rt: &HostRuntime) -> anyhow::Result<()> {
     }
 }
 
-fn main(rt: HostRuntime) -> anyhow::Result<()> {
+fn main(rt: HostRuntime) -> ExitCode {
     match run_with(&rt) {
-        Ok(()) => Ok(()),
+        Ok(()) => ExitCode::SUCCESS,
         Err(trouble) => {
-            eprintln!(rt; "serve: {trouble}")?;
-            Err(trouble)
+            // where not even this can be written, the status still tells
+            let _ = eprintln!(rt; "serve: {trouble}");
+            ExitCode::FAILURE
         }
     }
 }

@@ -3,7 +3,6 @@ ghost use Rattle.state.specs.Held.{AlwaysHeld};
 
 pub mod head;
 pub mod limits;
-pub mod numbers;
 pub mod parts;
 pub mod peers;
 pub mod votes;
