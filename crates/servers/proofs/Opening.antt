@@ -1,12 +1,11 @@
 -- Limits that were opened are good: each test that was passed is the bound that it tests.
-use Rattle.std.proofs.Common.{◌≡◌, ℕ, ◌<◌, ◌≤◌, Bool, true, false, ◌&&◌, ltb, leb, Ok, Err, Result, refl, arith}
+use Rattle.std.proofs.Common.{◌≡◌, ℕ, Bool, true, false, ◌&&◌, ltb, leb, Ok, Err, Result, refl, arith}
 use Rattle.std.proofs.lemmas.Bool.Decides.{nat_tests}
 use Rattle.servers.specs.declared.limits.Limits.{Limits}
 use Rattle.servers.specs.declared.limits.Unfit.{Unfit}
 use Rattle.servers.specs.declared.limits.Unfit.TheVariants.{Servers, Me, Clients, Room}
 use Rattle.servers.specs.Store.{pick}
-use Rattle.servers.specs.Opened.{opened, limits_of, OpenedIsGood}
-use Rattle.servers.specs.Promise.{GoodLimits}
+use Rattle.servers.specs.Opened.{OpenedIsGood}
 
 -- what was not refused passed the test
 passed : (b : Bool) (x : Result Limits Unfit) (u : Unfit) (l : Limits) → pick b x (Err u) ≡ Ok l → (b ≡ true) × (x ≡ Ok l)

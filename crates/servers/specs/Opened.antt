@@ -1,5 +1,5 @@
 -- The limits of the code, and those of the definitions that they stand for.
-use Rattle.std.specs.Prelude.{◌≡◌, ℕ, ◌<◌, ◌≤◌, Bool, true, false, ◌&&◌, Ok, Err, Result, nat_le, nat_lt}
+use Rattle.std.specs.Prelude.{◌≡◌, ℕ, Bool, ◌&&◌, Ok, Err, Result, nat_le, nat_lt}
 use Rattle.servers.specs.declared.limits.Limits.{Limits}
 use Rattle.servers.specs.declared.limits.Unfit.{Unfit}
 use Rattle.servers.specs.declared.limits.Unfit.TheVariants.{Servers, Me, Clients, Room}

@@ -1,11 +1,11 @@
 -- What is promised, as statements: types, whose proofs the contracts of other crates ask for. Assumes nothing.
-use Rattle.std.specs.Prelude.{◌≡◌, ℕ, zero, suc, ◌+◌, ◌-◌, ◌*◌, ◌/◌, ◌%◌, ◌<◌, ◌≤◌, Bool, true, false, not, ◌&&◌, ◌||◌, ◌≢◌, ◌⊎◌, List, [], ◌∷◌, ◌++◌, length, ◌==◌, nat_le, nat_lt}
-use Rattle.servers.specs.Store.{pick, Perhaps, Command, get, put, remove, swap, drop_if, Reply, Store}
+use Rattle.std.specs.Prelude.{◌≡◌, ℕ, ◌+◌, ◌*◌, ◌<◌, ◌≤◌, Bool, true, false, ◌&&◌, List, [], ◌∷◌, length, ◌==◌, nat_le, nat_lt}
+use Rattle.servers.specs.Store.{Perhaps, Command, get, put, remove, swap, drop_if}
 use Rattle.servers.specs.Server.{Entry, Message, ask_vote, vote, append, appended, Event, timeout, request, comes}
-use Rattle.servers.specs.Server.{restart, garbled, Said, Letter, Answer, Limits, State, state, turned, answer, after}
-use Rattle.servers.specs.Server.{entry_at, up_to, last_index, short, in_a_row}
+use Rattle.servers.specs.Server.{restart, garbled, Said, Limits, State, state, turned, answer, after}
+use Rattle.servers.specs.Server.{entry_at, up_to, last_index, in_a_row}
 use Rattle.servers.specs.World.{Program, Group, limits, Happening, World, Lived, seen, memory, Asked, was_asked}
-use Rattle.servers.specs.World.{was_told, before, Told, Happened, OneCommand, store_after, reply_in, there, each_once}
+use Rattle.servers.specs.World.{before, Told, Happened, OneCommand, reply_in, there, each_once}
 use Rattle.servers.specs.World.{earlier}
 
 -- events that their bytes can carry: bytes, servers in a byte, other numbers in eight
