@@ -10,7 +10,7 @@ use Rattle.std.proofs.lemmas.Bool.{and_parts, false≢true, or_cases, or_left, o
 use Rattle.std.proofs.lemmas.Bool.Decides.{nat_tests}
 use Rattle.safety.proofs.Letters.{in_either}
 use Rattle.safety.proofs.Event.{pick_passed}
-use Rattle.one_order.specs.Order.{order, furthest, committed, linearization}
+use Rattle.one_order.specs.Order.{furthest, committed, linearization}
 use Rattle.one_order.proofs.Lists.{All, all_more, all_up_to}
 use Rattle.one_order.proofs.Orders.{order_asked}
 use Rattle.one_order.proofs.Applying.{ClientsBelow}

@@ -1,5 +1,7 @@
 // One order: servers that answer as the definitions say are together as if there were one.
 // Each function stands for the statements in its contract; specs/Linearizable.antt says them.
+#![tactic(auto)]
+
 ghost use Rattle.servers.specs.Promise.{ToldTheSame, ToldWasAsked};
 ghost use Rattle.one_order.specs.Linearizable.{RightIsLinearizable, OrderLinearizes, OrderOnlyGrows};
 ghost use Rattle.one_order.specs.Linearizable.{LaterSeesEarlier, AtMostOnce, NumbersRise, ToldTheSameAlways};

@@ -1,6 +1,6 @@
 -- A REPLY TO ENTRIES COMES. If it is of the server's term and says yes, the leader notes how far that server has its log: the reply itself
 -- is the acknowledgement. A reply of another term is not counted.
-use Rattle.std.proofs.Common.{◌≡◌, ℕ, suc, ◌-◌, ◌<◌, Bool, true, false, eqb, ltb, List, [], ◌∙◌, subst, arith}
+use Rattle.std.proofs.Common.{◌≡◌, ℕ, suc, ◌-◌, ◌<◌, Bool, true, false, eqb, ltb, List, ◌∙◌, subst, arith}
 use Rattle.servers.specs.Store.{pick}
 use Rattle.servers.specs.Server.{State, appended, nth, at_least, next_for, with_match, with_next, advanced, hears_appended}
 use Rattle.servers.specs.World.{Sent, In}

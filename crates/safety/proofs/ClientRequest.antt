@@ -1,5 +1,5 @@
 -- A COMMAND COMES TO THE LEADER: it puts an entry of its term on its log, which is the leader's log of its term.
-use Rattle.std.proofs.Common.{◌≡◌, ℕ, suc, ◌<◌, ◌≤◌, ◌⊎◌, List, [], ◌∷◌, sym, refl, ap, ◌∙◌, inl, inr, arith}
+use Rattle.std.proofs.Common.{◌≡◌, ℕ, suc, ◌<◌, ◌≤◌, ◌⊎◌, List, ◌∷◌, sym, refl, ap, ◌∙◌, inl, inr, arith}
 use Rattle.servers.specs.Store.{Command}
 use Rattle.servers.specs.Server.{Entry, Limits, State, last_index, up_to, set_at, with_request}
 use Rattle.servers.specs.World.{Sent}

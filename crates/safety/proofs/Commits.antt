@@ -1,6 +1,6 @@
 -- STATE MACHINE SAFETY, in one world: what is committed in two logs is the same in both, up to the lower of the two (`commits_agree`).
 -- By leader completeness the leader's log of the later of the two terms has both.
-use Rattle.std.proofs.Common.{◌≡◌, ℕ, ◌≤◌, List, [], sym, ◌∙◌, subst, inl, inr, arith}
+use Rattle.std.proofs.Common.{◌≡◌, ℕ, ◌≤◌, List, sym, ◌∙◌, subst, inl, inr, arith}
 use Rattle.servers.specs.Server.{Entry, up_to}
 use Rattle.servers.specs.World.{Sent}
 use Rattle.std.proofs.lemmas.Bool.{cases_lt}

@@ -1,5 +1,5 @@
 -- A server casts a ballot: for itself when time is up (Timeout), or for another that asks (VoteRequest).
-use Rattle.std.proofs.Common.{◌≡◌, ℕ, ◌&&◌, eqb, ◌⊎◌, List, [], ◌++◌, refl, inl, inr, arith}
+use Rattle.std.proofs.Common.{◌≡◌, ℕ, ◌&&◌, eqb, ◌⊎◌, List, ◌++◌, refl, inl, inr, arith}
 use Rattle.servers.specs.Store.{pick}
 use Rattle.servers.specs.Server.{State, Letter}
 use Rattle.servers.specs.World.{Sent, In, from}

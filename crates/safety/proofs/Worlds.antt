@@ -2,7 +2,7 @@
 -- how the world came to be (Induction). One event is Event's; here it becomes one happening, and then all that happened.
 use Rattle.std.proofs.Common.{◌≡◌, ℕ, Bool, false, List, [], ◌∷◌, refl, subst, arith}
 use Rattle.servers.specs.Server.{Entry, Event, state, after, entry_at}
-use Rattle.servers.specs.World.{Program, Group, limits, Happening, Sent, In, letters, World, new_world, seen, happens, Lived}
+use Rattle.servers.specs.World.{Program, Group, limits, Happening, Sent, In, World, new_world, seen, happens, Lived}
 use Rattle.servers.specs.Promise.{GoodGroup, Right, readable_world, at_server}
 use Rattle.safety.specs.Safety.{Until, at_moment}
 use Rattle.safety.proofs.Tables.{length_many}

@@ -1,4 +1,6 @@
 // Safety: what holds of any group of servers that answer as the definitions say. Each function stands for the statements in its contract.
+#![tactic(auto)]
+
 ghost use Rattle.servers.specs.Promise.{OneLeads, LogsMatch, SettledIsSame, WhoLeadsHasIt, InARow, TurnedAway};
 ghost use Rattle.safety.specs.Safety.{ElectionSafety, LeaderAppendOnly, LogMatching, StateMachineSafety, CommitsStay, OneVote};
 ghost use Rattle.safety.specs.Safety.{LeaderCompleteness, LaterLeaderCompleteness};

@@ -1,4 +1,3 @@
-use Rattle.std.proofs.Common.{rules}
 use Rattle.one_order.proofs.at_most_once.Goals as goal
 use Rattle.one_order.proofs.Promises.{at_most_once, numbers_rise}
 

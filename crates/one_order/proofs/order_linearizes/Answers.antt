@@ -1,4 +1,3 @@
-use Rattle.std.proofs.Common.{rules}
 use Rattle.one_order.proofs.order_linearizes.Goals as goal
 use Rattle.one_order.proofs.Promises.{order_linearizes}
 

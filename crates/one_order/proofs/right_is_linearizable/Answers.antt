@@ -1,4 +1,3 @@
-use Rattle.std.proofs.Common.{rules}
 use Rattle.one_order.proofs.right_is_linearizable.Goals as goal
 use Rattle.one_order.proofs.Promises.{right_is_linearizable}
 

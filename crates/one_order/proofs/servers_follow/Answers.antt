@@ -1,4 +1,3 @@
-use Rattle.std.proofs.Common.{rules}
 use Rattle.one_order.proofs.servers_follow.Goals as goal
 use Rattle.one_order.proofs.Promises.{servers_follow}
 

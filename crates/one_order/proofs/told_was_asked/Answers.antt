@@ -1,4 +1,3 @@
-use Rattle.std.proofs.Common.{rules}
 use Rattle.one_order.proofs.told_was_asked.Goals as goal
 use Rattle.one_order.proofs.Promises.{entries_were_asked, told_was_asked, told_is_applied}
 

@@ -1,4 +1,3 @@
-use Rattle.std.proofs.Common.{rules}
 use Rattle.safety.proofs.commits_agree.Goals as goal
 use Rattle.safety.proofs.Promises.{settled_is_same}
 use Rattle.safety.proofs.OverTime.{state_machine_safety, commits_stay}

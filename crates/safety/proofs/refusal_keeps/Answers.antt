@@ -1,4 +1,3 @@
-use Rattle.std.proofs.Common.{rules}
 use Rattle.safety.proofs.refusal_keeps.Goals as goal
 use Rattle.safety.proofs.Promises.{turned_away}
 
