@@ -1,5 +1,7 @@
 // The refusals of an event that need no state, in their order, over the event's bytes: what is handed on is in its ranges, in a
 // row and within the room.
+#![tactic(auto)]
+
 ghost use Rattle.checks.specs.Refusals.{RefusalsInOrder};
 
 pub mod append;

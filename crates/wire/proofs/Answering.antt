@@ -5,7 +5,7 @@ use Rattle.std.proofs.lemmas.List.{append-nil, length-append}
 use Rattle.std.proofs.ByRecursion.{All-append, All-weaker}
 use Rattle.std.proofs.lemmas.Bool.{and_parts, ltb-true, eqb-true, lt-ltb}
 use Rattle.std.proofs.lemmas.Bool.Decides.{nat_tests}
-use Rattle.servers.specs.Store.{pick, reply}
+use Rattle.servers.specs.Store.{pick}
 use Rattle.servers.specs.Server.{Entry, Message, ask_vote, vote, append, appended, Event, timeout, request, comes, restart, garbled}
 use Rattle.servers.specs.Server.{Said, Letter, Answer, refused, not_leader, does, Limits, State, no_cached, last_index, last_term}
 use Rattle.servers.specs.Server.{last_of_all}

@@ -7,7 +7,7 @@ use Rattle.std.proofs.lemmas.List.{append-nil, length-append}
 use Rattle.std.proofs.ByRecursion.{All-append}
 use Rattle.std.proofs.lemmas.Bool.{and_parts, eqb-true, false≢true}
 use Rattle.std.proofs.lemmas.Bool.Decides.{nat_tests}
-use Rattle.servers.specs.Store.{pick, reply}
+use Rattle.servers.specs.Store.{pick}
 use Rattle.servers.specs.Server.{Entry, Limits, State, many, nth, set_at, last_index, entry_at, above, up_to, term_is}
 use Rattle.servers.specs.Server.{short, in_a_row, last_of_all, due}
 use Rattle.servers.proofs.Tests.{pick_by}

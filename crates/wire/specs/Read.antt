@@ -1,8 +1,8 @@
 -- The bytes of events, messages and answers, as they are read. A reader takes what it needs from the front and hands on the
 -- rest, or is stuck; reading an event is total, and bytes that are no event are `garbled` at the place where they cease to be
 -- one. Assumes nothing: these are definitions.
-use Rattle.std.specs.Prelude.{ℕ, zero, suc, ◌+◌, ◌-◌, ◌*◌, Bool, true, false, List, [], ◌∷◌, ◌++◌, length, take, drop, ◌==◌, nat_lt}
-use Rattle.servers.specs.Store.{pick, Perhaps, Command, get, put, remove, swap, drop_if, Reply}
+use Rattle.std.specs.Prelude.{ℕ, zero, suc, ◌+◌, ◌-◌, ◌*◌, Bool, true, false, List, [], ◌∷◌, length, take, drop, ◌==◌, nat_lt}
+use Rattle.servers.specs.Store.{pick, Perhaps, Command, get, put, remove, swap, drop_if}
 use Rattle.servers.specs.Server.{Entry, Message, ask_vote, vote, append, appended, Event, timeout, request, comes, restart, garbled}
 use Rattle.servers.specs.Server.{Said, Letter, Answer, refused, not_leader, does}
 

@@ -1,8 +1,8 @@
 -- The bytes of events, messages and answers, as they are written. Numbers are eight bytes, the lowest first; a server is one
 -- byte; a text is its length and its bytes; a text or none is the byte 0, or the byte 1 and the text; a boolean is the byte
 -- 0 or 1. Assumes nothing: these are definitions.
-use Rattle.std.specs.Prelude.{ℕ, zero, suc, ◌+◌, ◌*◌, ◌/◌, ◌%◌, Bool, true, false, List, [], ◌∷◌, ◌++◌, length}
-use Rattle.servers.specs.Store.{Perhaps, Command, get, put, remove, swap, drop_if, Reply}
+use Rattle.std.specs.Prelude.{ℕ, zero, suc, ◌/◌, ◌%◌, Bool, true, false, List, [], ◌∷◌, ◌++◌, length}
+use Rattle.servers.specs.Store.{Perhaps, Command, get, put, remove, swap, drop_if}
 use Rattle.servers.specs.Server.{Entry, Message, ask_vote, vote, append, appended, Event, timeout, request, comes, restart, garbled}
 use Rattle.servers.specs.Server.{Said, Letter, Answer, refused, not_leader, does}
 

@@ -1,11 +1,11 @@
 -- An entry that is there: where its index and its term stand.
-use Rattle.std.proofs.Common.{◌≡◌, ℕ, suc, ◌+◌, ◌<◌, ◌≤◌, Bool, true, false, ltb, List, [], ◌∷◌, length, take, drop, sym, refl, ap, ◌∙◌, arith}
+use Rattle.std.proofs.Common.{◌≡◌, ℕ, ◌≤◌, true, false, ltb, List, [], ◌∷◌, length, take, drop, sym, refl, ap, ◌∙◌, arith}
 use Rattle.std.proofs.lemmas.List.{drop-drop, length-drop}
 use Rattle.std.proofs.lemmas.Bool.{both_ways, ltb-false}
 use Rattle.servers.specs.Store.{pick}
 use Rattle.servers.specs.Server.{Entry}
 use Rattle.servers.proofs.Tests.{bool_by}
-use Rattle.wire.specs.Read.{Read, got, stuck, and_then, number_of, read_byte, read_number, read_command, read_entry}
+use Rattle.wire.specs.Read.{Read, got, stuck, and_then, number_of, read_number, read_command, read_entry}
 use Rattle.wire_read.specs.Means.{is_got}
 
 never : {A : Type 0} (k : ℕ) (a : A) (r : List ℕ) → ◌≡◌ {A = Read A} (stuck k) (got a r) → ⊥

@@ -1,5 +1,5 @@
 -- Entries one after the other: where the pass over them stands, and the first of them and the rest.
-use Rattle.std.proofs.Common.{◌≡◌, ℕ, zero, suc, ◌+◌, ◌-◌, ◌<◌, ◌≤◌, Bool, true, false, List, [], ◌∷◌, length, drop, sym, refl, ap, ◌∙◌, arith}
+use Rattle.std.proofs.Common.{◌≡◌, ℕ, zero, suc, ◌-◌, ◌<◌, true, false, List, ◌∷◌, length, refl, ap, arith}
 use Rattle.std.proofs.lemmas.Bool.{both_ways}
 use Rattle.servers.specs.Server.{Entry}
 use Rattle.wire.specs.Read.{Read, got, stuck, and_then, read_entry, read_entries}

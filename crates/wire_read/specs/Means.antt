@@ -1,6 +1,6 @@
 -- What the code's parts mean over the bytes that they were read from, and the one shape of a reader's promise. Assumes nothing:
 -- these are definitions.
-use Rattle.std.specs.Prelude.{◌≡◌, ℕ, zero, suc, ◌+◌, ◌-◌, ◌≤◌, Bool, true, false, List, [], ◌∷◌, ◌++◌, length, take, drop, Some, None, Ok, Err, Option, Result}
+use Rattle.std.specs.Prelude.{◌≡◌, ℕ, ◌+◌, ◌-◌, ◌≤◌, Bool, true, false, List, [], ◌∷◌, length, take, drop, Some, None, Ok, Err, Option, Result}
 use Rattle.servers.specs.Store as store
 use Rattle.servers.specs.Server as server
 use Rattle.wire.specs.Read.{Read, got, stuck, read_entries}

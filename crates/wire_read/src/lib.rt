@@ -1,4 +1,6 @@
 // Events, commands, messages and entries read from their bytes, with no copy: numbers by value, texts and entries by places.
+#![tactic(auto)]
+
 pub mod command;
 pub mod event;
 pub mod forward;

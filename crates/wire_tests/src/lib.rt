@@ -1,5 +1,7 @@
 // Good and damaged bytes of events of each kind: every beginning, a byte too many, every other byte in every place of a short
 // one; and what the writers write, read again. Tests apart from the crates that they try, which would be proved twice.
+#![tactic(auto)]
+
 use wire_read::event::read_event;
 use wire_read::parts::Event;
 

@@ -1,8 +1,8 @@
 -- An answer that was written, with the counts that go with it, means itself.
-use Rattle.std.proofs.Common.{◌≡◌, ℕ, List, [], ◌∷◌, ◌++◌, length, drop, refl}
+use Rattle.std.proofs.Common.{◌≡◌, ℕ, List, ◌++◌, length, drop, refl}
 use Rattle.std.proofs.lemmas.List.{append_assoc}
 use Rattle.std.proofs.lemmas.Bool.{and_parts}
-use Rattle.servers.specs.Server.{Answer, Entry, Message, append, refused, not_leader, does}
+use Rattle.servers.specs.Server.{Answer, Entry, append, refused, not_leader, does}
 use Rattle.wire.specs.Write.{write_answer, write_entries, write_letters, write_message, write_number, write_saids}
 use Rattle.wire.proofs.Letters.{letters_back, saids_back}
 use Rattle.wire.proofs.Numbers.{number}

@@ -1,5 +1,5 @@
 -- What a writer promises: bytes stand at a place, and nothing else was changed. Assumes nothing: these are definitions.
-use Rattle.std.specs.Prelude.{◌≡◌, ℕ, ◌+◌, ◌≤◌, List, [], ◌∷◌, ◌++◌, length, take, drop}
+use Rattle.std.specs.Prelude.{◌≡◌, ℕ, ◌+◌, ◌≤◌, List, ◌++◌, length, take, drop}
 
 -- xs with these bytes at a place
 abbrev pub put_at : ℕ → List ℕ → List ℕ → List ℕ

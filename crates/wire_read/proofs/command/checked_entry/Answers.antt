@@ -1,4 +1,4 @@
-use Rattle.std.proofs.Common.{◌≡◌, refl}
+use Rattle.std.proofs.Common.{refl}
 use Rattle.wire.specs.Read.{read_entry}
 use Rattle.wire_read.proofs.Reading.{exits, plainly, reads_then}
 use Rattle.wire_read.proofs.command.checked_entry.Goals as goal

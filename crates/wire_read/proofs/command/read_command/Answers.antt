@@ -1,4 +1,4 @@
-use Rattle.std.proofs.Common.{◌≡◌, refl, arith}
+use Rattle.std.proofs.Common.{refl, arith}
 use Rattle.wire.specs.Read.{read_command}
 use Rattle.wire_read.proofs.Laws.{command_bad}
 use Rattle.wire_read.proofs.Reading.{tag_exits, tagged, tag_refused}

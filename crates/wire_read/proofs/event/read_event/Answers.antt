@@ -1,4 +1,4 @@
-use Rattle.std.proofs.Common.{◌≡◌, length, sym, refl, ap, ◌∙◌}
+use Rattle.std.proofs.Common.{length, sym, ap, ◌∙◌}
 use Rattle.wire.specs.Read.{whole}
 use Rattle.wire_read.specs.Means.{means}
 use Rattle.wire_read.proofs.Laws.{whole_end, whole_more}

@@ -1,6 +1,6 @@
-use Rattle.std.proofs.Common.{◌≡◌, ℕ, ◌+◌, ◌<◌, ◌≤◌, true, List, length, take, drop, sym, refl, ap, ◌∙◌, arith}
+use Rattle.std.proofs.Common.{◌≡◌, ℕ, ◌+◌, ◌<◌, ◌≤◌, true, List, length, take, drop, sym, ap, ◌∙◌, arith}
 use Rattle.std.proofs.lemmas.List.{drop-drop, length-drop}
-use Rattle.servers.specs.Server.{Entry, last_index, last_term}
+use Rattle.servers.specs.Server.{last_index, last_term}
 use Rattle.wire.specs.Read.{number_of, read_entry, read_entries}
 use Rattle.wire_read.specs.Means.{is_got, list_read}
 use Rattle.wire_read.proofs.Heads.{what_is_got, headed}

@@ -1,4 +1,4 @@
-use Rattle.std.proofs.Common.{◌≡◌, refl, arith}
+use Rattle.std.proofs.Common.{refl, arith}
 use Rattle.wire.specs.Read.{read_message}
 use Rattle.wire_read.proofs.Laws.{message_bad}
 use Rattle.wire_read.proofs.Reading.{tag_exits, tagged, tag_refused}

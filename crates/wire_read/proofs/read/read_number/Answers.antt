@@ -1,4 +1,4 @@
-use Rattle.std.proofs.Common.{◌≡◌, length, sym, ◌∙◌, arith}
+use Rattle.std.proofs.Common.{length, sym, ◌∙◌, arith}
 use Rattle.wire_read.proofs.Laws.{number_at, number_short, stuck_end}
 use Rattle.wire_read.proofs.Reading.{plainly, refuses}
 use Rattle.wire_read.proofs.read.read_number.Goals as goal

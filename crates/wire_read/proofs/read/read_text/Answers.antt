@@ -1,4 +1,4 @@
-use Rattle.std.proofs.Common.{◌≡◌, length, sym, ◌∙◌, arith}
+use Rattle.std.proofs.Common.{length, sym, ◌∙◌, arith}
 use Rattle.wire.specs.Read.{read_text}
 use Rattle.wire_read.proofs.Laws.{bytes_at, bytes_short, stuck_end}
 use Rattle.wire_read.proofs.Reading.{exits, plainly, reads_then, refuses}

@@ -1,4 +1,4 @@
-use Rattle.std.proofs.Common.{◌≡◌, ℕ, ◌++◌, length, take, sym, ap}
+use Rattle.std.proofs.Common.{ℕ, ◌++◌, take, sym, ap}
 use Rattle.texts.specs.Words.{unpacked}
 use Rattle.wire.specs.Write.{write_number}
 use Rattle.wire_write.proofs.Putting.{writes_as, writes_then}

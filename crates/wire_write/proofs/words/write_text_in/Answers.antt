@@ -1,4 +1,4 @@
-use Rattle.std.proofs.Common.{◌≡◌, ℕ, List, length, get_or, take, ap, arith}
+use Rattle.std.proofs.Common.{ℕ, List, length, get_or, take, ap, arith}
 use Rattle.std.proofs.lemmas.List.{length-drop, take_rest}
 use Rattle.texts.specs.Words.{text_in, unpacked}
 use Rattle.wire.specs.Write.{write_text}
