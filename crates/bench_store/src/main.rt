@@ -2,6 +2,8 @@
 //   bench_store ITEMS OPERATIONS          does all kinds and prints what it counted
 //   bench_store ITEMS OPERATIONS times    prints the times too
 //   bench_store ITEMS OPERATIONS KIND     does one kind alone: none, look, put or renew (removed, and put again)
+#![tactic(auto)]
+
 ghost use Rattle.std.specs.Prelude.{◌≤◌};
 
 use std::alloc::Global;

@@ -1,9 +1,9 @@
 -- The parts of a command in words: its name, what is expected, its text.
-use Rattle.std.proofs.Common.{◌≡◌, ℕ, suc, ◌+◌, ◌*◌, List, [], ◌∷◌, ◌++◌, length, take, drop, sym, refl, ap, ◌∙◌, subst, arith}
+use Rattle.std.proofs.Common.{◌≡◌, ℕ, ◌*◌, List, ◌++◌, length, take, drop, sym, ap, ◌∙◌, subst, arith}
 use Rattle.std.proofs.lemmas.List.{length-append, take_at, take_all, drop_at, drop-drop}
 use Rattle.servers.specs.Store.{Perhaps, Command}
 use Rattle.texts.specs.Words.{PerhapsText, text_words, perhaps_words, perhaps_in}
-use Rattle.texts.specs.Commands.{tag, name_of, expects, text_of, command_words, command_in}
+use Rattle.texts.specs.Commands.{name_of, expects, text_of, command_in}
 use Rattle.texts.proofs.Cells.{length_text_words, length_perhaps_words, perhaps_back}
 use Rattle.store.specs.Calls.{OfText, OfPerhaps, OfCommand}
 use Rattle.store.proofs.Writing.{of_text}

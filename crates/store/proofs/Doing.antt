@@ -1,13 +1,13 @@
 -- The commands, from what their steps leave.
-use Rattle.std.proofs.Common.{◌≡◌, ℕ, zero, suc, ◌+◌, ◌-◌, ◌*◌, ◌<◌, ◌≤◌, Bool, true, false, List, [], ◌∷◌, ◌++◌, length, get_or, take, drop, set, sym, refl, ap, ◌∙◌, subst, arith}
-use Rattle.servers.specs.Store.{pick, same_text, same_perhaps, Perhaps, Command, get, put, remove, swap, drop_if, Item, Store, look, reply}
-use Rattle.texts.specs.Words.{Text, PerhapsText, text_words, text_in, perhaps_words, perhaps_in}
+use Rattle.std.proofs.Common.{◌≡◌, ℕ, ◌<◌, ◌≤◌, Bool, true, false, List, [], ◌∷◌, length, sym, refl, ap, ◌∙◌, subst, arith}
+use Rattle.servers.specs.Store.{pick, same_text, same_perhaps, Perhaps, get, put, remove, swap, drop_if, look, reply}
+use Rattle.texts.specs.Words.{Text, PerhapsText, perhaps_words}
 use Rattle.texts.proofs.Cells.{length_perhaps_words}
 use Rattle.texts.proofs.Order.{perhaps_same}
-use Rattle.store.specs.Region.{blank, count, capacity, items_of, place, found, replaced_at, inserted_at, removed_at, region_put}
+use Rattle.store.specs.Region.{count, capacity, items_of, place, found, replaced_at, inserted_at, removed_at, region_put}
 use Rattle.store.specs.Region.{region_remove, region_do, RegionOk}
-use Rattle.store.specs.Calls.{Held, OfText, OfPerhaps, SpotOf, Does, text_there}
-use Rattle.servers.proofs.Tests.{bool_by, pick_by, pick_true, pick_false}
+use Rattle.store.specs.Calls.{Held, SpotOf, Does, text_there}
+use Rattle.servers.proofs.Tests.{pick_by, pick_true, pick_false}
 use Rattle.store.proofs.Stores.{look_place, place_within, found_within}
 use Rattle.store.proofs.Regions.{items_count, holds_put, holds_remove}
 use Rattle.store.proofs.Reading.{Nth, nth_good}

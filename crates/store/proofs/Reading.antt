@@ -1,14 +1,13 @@
 -- A region as the code reads it: the index word at p, and the name and the text of the p-th item.
-use Rattle.std.proofs.Common.{◌≡◌, ℕ, zero, suc, ◌+◌, ◌-◌, ◌*◌, ◌<◌, ◌≤◌, Bool, true, false, ◌&&◌, ltb, List, [], ◌∷◌, ◌++◌, length, get_or, take, drop, sym, refl, ap, ◌∙◌, subst, ⊎_elim, arith}
+use Rattle.std.proofs.Common.{◌≡◌, ℕ, ◌+◌, ◌*◌, ◌<◌, ◌≤◌, Bool, true, false, ◌&&◌, ltb, List, length, get_or, take, drop, sym, ap, ◌∙◌, subst, ⊎_elim, arith}
 use Rattle.std.proofs.lemmas.List.{get_or-take, get_or-drop, drop-drop}
 use Rattle.std.proofs.lemmas.Bool.{both_ways, cases_lt, cases_Bool, lt-ltb, le-ltb}
-use Rattle.servers.specs.Store.{pick, same_text, less_text, Item, Store}
+use Rattle.servers.specs.Store.{same_text, less_text, Item, Store}
 use Rattle.texts.specs.Words.{Text, text_words, text_in}
 use Rattle.texts.specs.Order.{less_words}
 use Rattle.texts.proofs.Order.{words_order, words_same}
-use Rattle.store.specs.Region.{blank, rows_words, region_of, count, capacity, index_of, rows_of, items_of, place, found, GoodItem, Sorted}
+use Rattle.store.specs.Region.{blank, rows_words, count, capacity, index_of, rows_of, items_of, place, found, GoodItem, Sorted}
 use Rattle.store.specs.Calls.{Held, OfText}
-use Rattle.servers.proofs.Tests.{bool_by}
 use Rattle.store.proofs.Order.{less_trans}
 use Rattle.store.proofs.Stores.{place_is, sorted_at, found_at}
 use Rattle.store.proofs.Rows.{name_at, text_at, good_at}

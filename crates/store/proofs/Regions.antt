@@ -1,21 +1,20 @@
 -- The region holds what the store of the definitions holds, before and after each command.
-use Rattle.std.proofs.Common.{◌≡◌, ℕ, zero, suc, ◌+◌, ◌-◌, ◌*◌, ◌<◌, ◌≤◌, Bool, true, false, List, [], ◌∷◌, ◌++◌, map, length, get_or, take, drop, set, replicate, sym, refl, ap, ◌∙◌, subst, arith}
-use Rattle.std.proofs.lemmas.List.{append_assoc, map-append, length-append, length-take-le, length-drop, length-map, length-set, length-replicate, take_at, drop_at, take_all, drop-drop, take-map, drop-map, set_at, get_or_at, take-append-drop}
-use Rattle.servers.specs.Store.{pick, same_perhaps, Perhaps, Command, get, put, remove, swap, drop_if, Item, Store, look, with_item}
+use Rattle.std.proofs.Common.{◌≡◌, ℕ, ◌+◌, ◌-◌, ◌*◌, ◌<◌, ◌≤◌, true, false, List, [], ◌∷◌, ◌++◌, length, get_or, take, drop, set, replicate, sym, refl, ap, ◌∙◌, subst, arith}
+use Rattle.std.proofs.lemmas.List.{map-append, length-append, length-take-le, length-map, length-set, length-replicate, take_at, drop_at, drop-drop, set_at, get_or_at, take-append-drop}
+use Rattle.servers.specs.Store.{pick, same_perhaps, Command, get, put, remove, swap, drop_if, Item, Store, look, with_item}
 use Rattle.servers.specs.Store.{without_item, done}
 use Rattle.texts.specs.Words.{All, Text, word}
 use Rattle.texts.specs.Commands.{GoodCommand}
-use Rattle.store.specs.Region.{blank, item, rows_words, rows_in, region_of, count, capacity, index_of, rows_of, items_at, items_of}
+use Rattle.store.specs.Region.{blank, item, rows_words, rows_in, region_of, count, index_of, rows_of, items_at, items_of}
 use Rattle.store.specs.Region.{region_size, numbers, empty_region, place, found, opened, closed, replaced_at, inserted_at, removed_at}
 use Rattle.store.specs.Region.{region_put, region_remove, region_do, GoodItem, Apart, Sorted, PartsOk, RegionOk}
 use Rattle.store.specs.Laws.{RegionLaws}
 use Rattle.servers.proofs.Tests.{bool_by, pick_by, pick_true, pick_false}
-use Rattle.store.proofs.Order.{at_pick}
 use Rattle.store.proofs.Stores.{with_place, without_place, place_within, found_within, sorted_with, sorted_without}
 use Rattle.store.proofs.Rows.{all_append, length_rows_words, rows_back, rows_fit, good_blanks, good_set}
-use Rattle.store.proofs.RowNumbers.{all_left, all_at, split_used, take_used, take_split, take_opened, take_closed, length_opened}
+use Rattle.store.proofs.RowNumbers.{all_left, all_at, take_used, take_split, take_opened, take_closed, length_opened}
 use Rattle.store.proofs.RowNumbers.{length_closed, all_opened, all_closed, apart_opened, apart_closed, apart_left, apart_around}
-use Rattle.store.proofs.RowNumbers.{items_around, split_free, length_numbers, numbers_below, numbers_apart}
+use Rattle.store.proofs.RowNumbers.{items_around, length_numbers, numbers_below, numbers_apart}
 
 -- a region from its parts is read back
 pub index_back : (n c : ℕ) (is : List ℕ) (xs : List Item) → length is ≡ n → index_of (region_of c n is xs) ≡ is

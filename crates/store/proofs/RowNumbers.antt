@@ -1,7 +1,7 @@
 -- The index: a row number moved to another place, and the items that it then names.
-use Rattle.std.proofs.Common.{◌≡◌, ℕ, zero, suc, ◌+◌, ◌-◌, ◌*◌, ◌<◌, ◌≤◌, ◌≢◌, List, [], ◌∷◌, ◌++◌, map, length, get_or, take, drop, set, sym, refl, ap, ◌∙◌, subst, arith}
-use Rattle.std.proofs.lemmas.List.{append_assoc, append-nil, map-append, length-append, length-take-le, length-drop, length-map, take_at, drop_at, take_all, drop-drop, drop_more, drop-take, take-append-drop, take-take, set_at, get_or-set_same, get_or-set_other}
-use Rattle.servers.specs.Store.{Item, Store}
+use Rattle.std.proofs.Common.{◌≡◌, ℕ, zero, suc, ◌+◌, ◌-◌, ◌<◌, ◌≤◌, List, [], ◌∷◌, ◌++◌, length, get_or, take, drop, set, sym, refl, ap, ◌∙◌, subst, arith}
+use Rattle.std.proofs.lemmas.List.{append_assoc, map-append, length-append, length-take-le, length-drop, take_at, drop-drop, drop_more, drop-take, take-append-drop, take-take, get_or-set_same, get_or-set_other}
+use Rattle.servers.specs.Store.{Item}
 use Rattle.texts.specs.Words.{All}
 use Rattle.store.specs.Region.{blank, items_at, opened, closed, Apart, numbers}
 use Rattle.store.proofs.Rows.{all_append}

@@ -2,8 +2,8 @@
 use Rattle.std.proofs.Common.{◌≡◌, ℕ, zero, suc, ◌+◌, ◌-◌, ◌*◌, ◌<◌, ◌≤◌, List, [], ◌∷◌, ◌++◌, length, get_or, take, drop, set, replicate, sym, refl, ap, ◌∙◌, arith}
 use Rattle.std.proofs.lemmas.List.{append_assoc, length-append, length-take-le, take_at, take_all, drop_at, drop-drop, drop_more, take-append-drop, set_split, replicate-append-replicate}
 use Rattle.servers.specs.Store.{Item}
-use Rattle.texts.specs.Words.{All, Text, word, cells, text_words, text_in}
-use Rattle.texts.proofs.Cells.{length_cells, length_text_words, cells_nil, text_back, text_fits}
+use Rattle.texts.specs.Words.{All, word, text_words, text_in}
+use Rattle.texts.proofs.Cells.{length_text_words, cells_nil, text_back, text_fits}
 use Rattle.store.specs.Region.{blank, item, item_words, item_in, rows_words, rows_in, GoodItem}
 
 pub all_append : {A : Type 0} (P : A → Type 0) (xs ys : List A) → All P xs → All P ys → All P (xs ++ ys)

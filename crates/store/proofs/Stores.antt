@@ -1,13 +1,13 @@
 -- A sorted store by places: look, with_item and without-item of the definitions at the place of a name.
-use Rattle.std.proofs.Common.{◌≡◌, ℕ, zero, suc, ◌+◌, ◌-◌, ◌*◌, ◌<◌, ◌≤◌, Bool, true, false, ◌&&◌, ◌||◌, eqb, ltb, ◌⊎◌, List, [], ◌∷◌, ◌++◌, length, get_or, take, drop, set, sym, refl, ap, ◌∙◌, inl, inr, ⊎_elim, arith}
+use Rattle.std.proofs.Common.{◌≡◌, ℕ, zero, suc, ◌+◌, ◌<◌, ◌≤◌, Bool, true, false, ◌&&◌, ltb, List, [], ◌∷◌, ◌++◌, length, get_or, take, drop, set, refl, ap, ◌∙◌, arith}
 use Rattle.std.proofs.lemmas.Bool.Decides.{nat_tests}
-use Rattle.std.proofs.lemmas.Bool.{both_ways, lt-ltb, le-ltb}
-use Rattle.servers.specs.Store.{pick, same_text, less_text, Perhaps, Item, Store, look, with_item, without_item}
+use Rattle.std.proofs.lemmas.Bool.{both_ways, lt-ltb}
+use Rattle.servers.specs.Store.{pick, same_text, less_text, Item, Store, look, with_item, without_item}
 use Rattle.texts.specs.Words.{All}
 use Rattle.texts.proofs.Order.{same_self, same_tells}
 use Rattle.store.specs.Region.{blank, item, place, found, Sorted}
-use Rattle.servers.proofs.Tests.{bool_by, pick_by, pick_true, pick_false}
-use Rattle.store.proofs.Order.{at_pick, less_trans, less_self, less_one_way, less_neither}
+use Rattle.servers.proofs.Tests.{bool_by, pick_by}
+use Rattle.store.proofs.Order.{at_pick, less_trans, less_one_way, less_neither}
 use Rattle.store.proofs.Order.{less_other, same_turned}
 
 -- with_item puts the item at the name's place

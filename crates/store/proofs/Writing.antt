@@ -1,9 +1,9 @@
 -- A region as the code writes it: a row, a text of a row, the index.
-use Rattle.std.proofs.Common.{◌≡◌, ℕ, zero, suc, ◌+◌, ◌-◌, ◌*◌, ◌<◌, ◌≤◌, Bool, true, false, List, [], ◌∷◌, ◌++◌, length, get_or, take, drop, set, replicate, sym, refl, ap, ◌∙◌, subst, arith}
+use Rattle.std.proofs.Common.{◌≡◌, ℕ, suc, ◌+◌, ◌-◌, ◌*◌, ◌<◌, ◌≤◌, List, [], ◌∷◌, ◌++◌, length, get_or, take, drop, set, replicate, sym, ap, ◌∙◌, subst, arith}
 use borrow.Rule.Slice.PartMut.{put_mid}
 use Rattle.std.proofs.lemmas.List.{append_assoc, drop-drop, drop_at, take_at, length-take-le, length-drop, drop-replicate}
-use Rattle.servers.specs.Store.{pick, Item}
-use Rattle.texts.specs.Words.{All, Byte, Text, text_words, text_in, perhaps_words}
+use Rattle.servers.specs.Store.{Item}
+use Rattle.texts.specs.Words.{All, Byte, Text, text_words, text_in}
 use Rattle.texts.proofs.Cells.{length_text_words, text_back}
 use Rattle.texts.proofs.Parts.{take_past}
 use Rattle.store.specs.Region.{blank, item, item_words, rows_words, region_of, count, capacity, index_of, rows_of, opened, closed}

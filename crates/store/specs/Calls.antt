@@ -1,6 +1,6 @@
 -- What the functions of the store ask of their words, and what they leave. Assumes nothing: these are definitions.
-use Rattle.std.specs.Prelude.{◌≡◌, ℕ, ◌+◌, ◌*◌, ◌<◌, Bool, true, false, List, [], ◌∷◌, length, Some, None, Option, slice_index_or}
-use Rattle.servers.specs.Store.{pick, Perhaps, Command, Reply, Store, reply}
+use Rattle.std.specs.Prelude.{◌≡◌, ℕ, ◌*◌, Bool, List, [], ◌∷◌, length, Some, None, Option, slice_index_or}
+use Rattle.servers.specs.Store.{pick, Perhaps, Command, Store, reply}
 use Rattle.texts.specs.Words.{Text, PerhapsText, text_words, text_in, perhaps_words, perhaps_in}
 use Rattle.std.specs.Borrow.{Bor}
 use Rattle.texts.specs.Commands.{command_words, command_in, GoodCommand}

@@ -10,9 +10,9 @@
 -- A new name takes the first free row, and its number is put at its place in the index; a name that goes leaves its row number
 -- to the free ones. So rows stay where they are, and a removed row is used again.
 use Rattle.std.specs.Prelude.{◌≡◌, ℕ, zero, suc, ◌+◌, ◌-◌, ◌*◌, ◌<◌, ◌≤◌, Bool, true, false, List, [], ◌∷◌, ◌++◌, map, length, take, drop, replicate, ◌≢◌, slice_index, slice_index_or, slice_range, slice_set}
-use Rattle.servers.specs.Store.{pick, same_text, less_text, same_perhaps, Perhaps, Command, get, put, remove, swap, drop_if, Item, Store}
+use Rattle.servers.specs.Store.{pick, same_text, less_text, same_perhaps, Command, get, put, remove, swap, drop_if, Item, Store}
 use Rattle.servers.specs.Store.{look}
-use Rattle.texts.specs.Words.{All, Text, PerhapsText, text_words, text_in, perhaps_words, perhaps_in}
+use Rattle.texts.specs.Words.{All, Text, text_words, text_in}
 
 abbrev pub blank : Item
 blank = record { key = []; value = [] }

@@ -1,4 +1,6 @@
 // Texts by names in a part of lent words: the commands of the store, against its definitions.
+#![tactic(auto)]
+
 ghost use Rattle.store.specs.Laws.{RegionLaws};
 
 pub mod bytes;

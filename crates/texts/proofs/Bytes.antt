@@ -1,6 +1,6 @@
 -- Numbers and their bytes, the highest first: lengths, bounds, and that each is read back from the other.
-use Rattle.std.proofs.Common.{◌≡◌, ℕ, zero, suc, ◌+◌, ◌-◌, ◌*◌, ◌/◌, ◌%◌, ◌^◌, ◌<◌, ◌≤◌, List, [], ◌∷◌, ◌++◌, length, get_or, take, drop, replicate, sym, refl, ap, ◌∙◌, mul_assoc, mul_comm, pow-suc, arith}
-use lib.Arith.{digits_lt, digits_div, digits_mod}
+use Rattle.std.proofs.Common.{◌≡◌, ℕ, zero, suc, ◌+◌, ◌*◌, ◌/◌, ◌%◌, ◌^◌, ◌<◌, ◌≤◌, List, [], ◌∷◌, ◌++◌, length, get_or, take, drop, sym, refl, ap, mul_assoc, mul_comm, pow-suc, arith}
+use lib.Arith.{digits_lt, digits_div}
 use native.Mathlib.Nat.{pow-zero, mul-add-div_right}
 use Rattle.texts.specs.Words.{All, Byte, number_be, bytes_be}
 

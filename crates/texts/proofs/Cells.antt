@@ -1,8 +1,8 @@
 -- Texts in words: lengths, bounds, and that what is written is read back.
-use Rattle.std.proofs.Common.{◌≡◌, ℕ, zero, suc, ◌+◌, ◌-◌, ◌*◌, ◌^◌, ◌<◌, ◌≤◌, Bool, true, false, eqb, List, [], ◌∷◌, ◌++◌, length, get_or, take, drop, replicate, sym, refl, ap, ◌∙◌, arith}
-use Rattle.std.proofs.lemmas.List.{length-append, drop-drop, drop_all}
+use Rattle.std.proofs.Common.{◌≡◌, ℕ, zero, suc, ◌+◌, ◌-◌, ◌*◌, ◌<◌, false, eqb, List, [], ◌∷◌, ◌++◌, length, take, drop, replicate, sym, refl, ap, ◌∙◌, arith}
+use Rattle.std.proofs.lemmas.List.{length-append, drop-drop}
 use Rattle.std.proofs.lemmas.Bool.{ne_eqb}
-use Rattle.servers.specs.Store.{pick, Perhaps}
+use Rattle.servers.specs.Store.{Perhaps}
 use Rattle.texts.specs.Words.{All, Byte, Text, PerhapsText, word, number_be, bytes_be, cells, unpacked, text_words, text_in}
 use Rattle.texts.specs.Words.{perhaps_words, perhaps_in}
 use Rattle.texts.proofs.Bytes.{padded, all_drop, length_bytes_be, number_below, bytes_back, padded_add, padded_back}

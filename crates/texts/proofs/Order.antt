@@ -1,8 +1,8 @@
 -- Comparing words and then lengths compares texts.
-use Rattle.std.proofs.Common.{◌≡◌, ℕ, zero, suc, ◌+◌, ◌-◌, ◌*◌, ◌^◌, ◌<◌, ◌≤◌, Bool, true, false, ◌&&◌, ◌||◌, eqb, ltb, ◌⊎◌, List, [], ◌∷◌, ◌++◌, length, get_or, take, drop, sym, refl, ap, ◌∙◌, inl, inr, ⊎_elim, mul-le-mul_right, add-mul, arith}
+use Rattle.std.proofs.Common.{◌≡◌, ℕ, zero, suc, ◌+◌, ◌*◌, ◌^◌, ◌<◌, ◌≤◌, Bool, true, false, ◌&&◌, ◌||◌, eqb, ltb, List, [], ◌∷◌, ◌++◌, length, get_or, drop, sym, refl, ap, ◌∙◌, ⊎_elim, mul-le-mul_right, add-mul, arith}
 use Rattle.std.proofs.lemmas.Bool.Decides.{nat_tests}
-use Rattle.std.proofs.lemmas.Bool.{and_parts, and_from, eqb-true, eq-eqb, ne_eqb, lt-ltb, le-ltb, cases_order, cases_Bool, both_ways}
-use Rattle.servers.specs.Store.{pick, Perhaps, same_text, less_text, same_perhaps}
+use Rattle.std.proofs.lemmas.Bool.{and_parts, and_from, eqb-true, eq-eqb, lt-ltb, le-ltb, cases_order, both_ways}
+use Rattle.servers.specs.Store.{Perhaps, same_text, less_text, same_perhaps}
 use Rattle.texts.specs.Words.{All, Byte, Text, PerhapsText, number_be, cells, text_words, perhaps_words}
 use Rattle.texts.specs.Order.{less_cells, less_words}
 use Rattle.texts.proofs.Bytes.{padded, all_drop, number_below, padded_add}

@@ -1,5 +1,5 @@
 -- Texts compared by their words: word by word, and by the lengths where the words are the same. Assumes nothing: these are definitions.
-use Rattle.std.specs.Prelude.{◌≡◌, ℕ, ◌*◌, ◌<◌, Bool, true, false, ◌&&◌, ◌||◌, List, [], ◌∷◌, length, drop, ◌==◌, nat_lt, slice_index}
+use Rattle.std.specs.Prelude.{◌≡◌, ℕ, ◌*◌, ◌<◌, Bool, ◌&&◌, ◌||◌, List, [], ◌∷◌, length, drop, ◌==◌, nat_lt, slice_index}
 use Rattle.servers.specs.Store.{Perhaps, same_text, less_text, same_perhaps}
 use Rattle.texts.specs.Words.{All, Text, PerhapsText, word, text_words, text_in, perhaps_words, perhaps_in}
 

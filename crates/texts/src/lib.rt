@@ -1,5 +1,7 @@
 // Texts in words of 64 bits: eight bytes to a word, the first byte highest, zeros after the text's end, and before them the length.
 // So words compare as texts do.
+#![tactic(auto)]
+
 ghost use Rattle.texts.specs.Order.{TextRoundTrip, PerhapsRoundTrip, WordsFit, WordsOrder, WordsSame, PerhapsSame};
 
 pub mod compare;

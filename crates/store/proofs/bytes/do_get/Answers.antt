@@ -1,4 +1,4 @@
-use Rattle.std.proofs.Common.{◌≡◌, ℕ, List, ap, subst}
+use Rattle.std.proofs.Common.{ap, subst}
 use Rattle.servers.specs.Store.{Command, get}
 use Rattle.store.specs.Calls.{Does}
 use Rattle.store.proofs.bytes.do_get.Goals as goal

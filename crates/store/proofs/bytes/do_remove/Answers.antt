@@ -1,4 +1,4 @@
-use Rattle.std.proofs.Common.{◌≡◌, ap, subst}
+use Rattle.std.proofs.Common.{ap, subst}
 use Rattle.servers.specs.Store.{Command, remove}
 use Rattle.store.specs.Calls.{Does}
 use Rattle.store.proofs.bytes.do_remove.Goals as goal

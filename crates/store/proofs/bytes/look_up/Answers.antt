@@ -1,4 +1,4 @@
-use Rattle.std.proofs.Common.{◌≡◌, ℕ, List, ap, ◌∙◌}
+use Rattle.std.proofs.Common.{ℕ, List, ap, ◌∙◌}
 use Rattle.servers.specs.Store.{look}
 use Rattle.store.specs.Region.{items_of}
 use Rattle.store.proofs.bytes.look_up.Goals as goal

@@ -1,4 +1,4 @@
-use Rattle.std.proofs.Common.{◌≡◌, ℕ, List, [], ◌∷◌, sym, refl, ap, ◌∙◌}
+use Rattle.std.proofs.Common.{ℕ, List, [], ◌∷◌, sym, refl, ap, ◌∙◌}
 use Rattle.texts.specs.Words.{text_in, perhaps_in}
 use Rattle.texts.specs.Means.{perhaps_of}
 use Rattle.texts.proofs.Cells.{perhaps_back}

@@ -1,4 +1,4 @@
-use Rattle.std.proofs.Common.{◌≡◌, ap, ◌∙◌, arith}
+use Rattle.std.proofs.Common.{ap, ◌∙◌, arith}
 use Rattle.texts.specs.Words.{text_in}
 use Rattle.texts.proofs.Cells.{text_back}
 use Rattle.store.proofs.Writing.{of_text, all_bytes}

@@ -1,4 +1,4 @@
-use Rattle.std.proofs.Common.{◌≡◌, ℕ, ◌+◌, ◌-◌, get_or, sym, refl, ap, ◌∙◌, arith}
+use Rattle.std.proofs.Common.{ℕ, ◌+◌, ◌-◌, get_or, arith}
 use Rattle.store.proofs.Writing.{length_of_text, part_long, insert_is}
 use Rattle.store.proofs.change.insert.Goals as goal
 

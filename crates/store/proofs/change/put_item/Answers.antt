@@ -1,4 +1,4 @@
-use Rattle.std.proofs.Common.{◌≡◌, ◌∙◌, arith}
+use Rattle.std.proofs.Common.{◌∙◌}
 use Rattle.texts.specs.Words.{text_in}
 use Rattle.store.proofs.Doing.{spot_most, spot_in, replaced_put, inserted_put}
 use Rattle.store.proofs.change.put_item.Goals as goal

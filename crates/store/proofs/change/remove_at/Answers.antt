@@ -1,4 +1,4 @@
-use Rattle.std.proofs.Common.{◌≡◌, ℕ, ◌+◌, ◌-◌, get_or, sym, refl, ap, ◌∙◌, arith}
+use Rattle.std.proofs.Common.{ℕ, ◌+◌, ◌-◌, get_or, arith}
 use Rattle.store.proofs.Reading.{held_long}
 use Rattle.store.proofs.Writing.{remove_is}
 use Rattle.store.proofs.change.remove_at.Goals as goal

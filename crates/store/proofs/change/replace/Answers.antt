@@ -1,4 +1,4 @@
-use Rattle.std.proofs.Common.{◌≡◌, ℕ, ◌+◌, ◌-◌, sym, refl, ap, ◌∙◌, arith}
+use Rattle.std.proofs.Common.{ℕ, ◌+◌, ◌-◌, ◌∙◌, arith}
 use Rattle.texts.specs.Words.{text_in}
 use Rattle.store.proofs.Writing.{length_of_text, part_long, text_written}
 use Rattle.store.proofs.change.replace.Goals as goal

@@ -1,5 +1,5 @@
-use Rattle.std.proofs.Common.{◌≡◌, ℕ, true, false, List, [], ◌∷◌, sym, refl, ◌∙◌}
-use Rattle.servers.specs.Store.{look, same_perhaps}
+use Rattle.std.proofs.Common.{ℕ, List, [], ◌∷◌, sym, refl, ◌∙◌}
+use Rattle.servers.specs.Store.{look}
 use Rattle.texts.specs.Words.{text_in}
 use Rattle.store.specs.Region.{items_of}
 use Rattle.store.proofs.Doing.{did_drop, not_drop, kept_remove, tests_same, look_good, spot_in, removed_do}

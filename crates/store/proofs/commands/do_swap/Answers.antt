@@ -1,5 +1,5 @@
-use Rattle.std.proofs.Common.{◌≡◌, ℕ, true, false, List, sym, ◌∙◌, arith}
-use Rattle.servers.specs.Store.{look, same_perhaps}
+use Rattle.std.proofs.Common.{ℕ, List, sym, ◌∙◌, arith}
+use Rattle.servers.specs.Store.{look}
 use Rattle.texts.specs.Words.{text_in, perhaps_in}
 use Rattle.store.specs.Region.{capacity, items_of}
 use Rattle.store.proofs.Regions.{items_count}

@@ -1,4 +1,4 @@
-use Rattle.std.proofs.Common.{◌≡◌, ap, ◌∙◌}
+use Rattle.std.proofs.Common.{ap, ◌∙◌}
 use Rattle.texts.specs.Words.{text_in, perhaps_words}
 use Rattle.store.proofs.Doing.{spot_in, spot_look}
 use Rattle.store.proofs.commands.find_before.Goals as goal

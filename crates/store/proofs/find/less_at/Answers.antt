@@ -1,4 +1,4 @@
-use Rattle.std.proofs.Common.{◌≡◌, length, sym, refl, ap, ◌∙◌, arith}
+use Rattle.std.proofs.Common.{length, ap, ◌∙◌, arith}
 use Rattle.texts.specs.Words.{text_in}
 use Rattle.texts.proofs.Cells.{length_text_words}
 use Rattle.store.proofs.Reading.{Nth, nth_good, less_is}

@@ -1,8 +1,8 @@
-use Rattle.std.proofs.Common.{◌≡◌, ℕ, ◌+◌, ◌-◌, ◌/◌, ◌<◌, ◌≤◌, length, sym, refl, ap, ◌∙◌, arith}
+use Rattle.std.proofs.Common.{ℕ, ◌+◌, ◌-◌, ◌/◌, sym, arith}
 use Rattle.texts.specs.Words.{text_in}
-use Rattle.store.specs.Region.{items_of, capacity, count}
+use Rattle.store.specs.Region.{items_of, capacity}
 use Rattle.store.proofs.Regions.{items_count}
-use Rattle.store.proofs.Reading.{held_long, below_mid, above_mid, place_found}
+use Rattle.store.proofs.Reading.{below_mid, above_mid, place_found}
 use Rattle.store.proofs.find.lower_bound.Goals as goal
 
 pub loop-lo-preserved-then-less_at : goal.loop-lo-preserved-then-less_at

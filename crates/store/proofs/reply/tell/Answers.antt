@@ -1,4 +1,4 @@
-use Rattle.std.proofs.Common.{◌≡◌, ℕ, Bool, List, [], ◌∷◌, sym, refl, ap, ◌∙◌, arith}
+use Rattle.std.proofs.Common.{◌≡◌, ℕ, Bool, List, [], ◌∷◌, sym, ap, ◌∙◌}
 use Rattle.texts.specs.Words.{text_in, perhaps_words}
 use Rattle.texts.proofs.Cells.{text_back}
 use Rattle.store.specs.Calls.{text_there}

@@ -1,4 +1,4 @@
-use Rattle.std.proofs.Common.{◌≡◌, sym}
+use Rattle.std.proofs.Common.{sym}
 use Rattle.store.specs.Region.{capacity}
 use Rattle.store.proofs.Regions.{items_count}
 use Rattle.store.proofs.row.len.Goals as goal

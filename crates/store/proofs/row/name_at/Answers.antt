@@ -1,5 +1,5 @@
-use Rattle.std.proofs.Common.{◌≡◌, ℕ, ◌+◌, ◌-◌, take, drop, sym, refl, ap, ◌∙◌, arith}
-use Rattle.store.proofs.Reading.{held_few, name_in}
+use Rattle.std.proofs.Common.{◌≡◌, ℕ, ◌+◌, ◌-◌, take, drop, ap, ◌∙◌, arith}
+use Rattle.store.proofs.Reading.{name_in}
 use Rattle.store.proofs.row.name_at.Goals as goal
 
 pub returns : goal.returns

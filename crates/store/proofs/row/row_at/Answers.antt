@@ -1,4 +1,4 @@
-use Rattle.std.proofs.Common.{◌≡◌, ℕ, ◌+◌, ◌*◌, get_or, sym, refl, ap, ◌∙◌, arith}
+use Rattle.std.proofs.Common.{ℕ, ◌+◌, ◌*◌, get_or, sym, ap, arith}
 use Rattle.store.proofs.Reading.{held_long, index_word, index_below}
 use Rattle.store.proofs.row.row_at.Goals as goal
 

@@ -1,5 +1,5 @@
-use Rattle.std.proofs.Common.{◌≡◌, ℕ, ◌+◌, ◌-◌, take, drop, sym, refl, ap, ◌∙◌, arith}
-use Rattle.store.proofs.Reading.{held_few, text_part}
+use Rattle.std.proofs.Common.{◌≡◌, ℕ, ◌+◌, ◌-◌, take, drop, ap, ◌∙◌, arith}
+use Rattle.store.proofs.Reading.{text_part}
 use Rattle.store.proofs.row.text_at.Goals as goal
 
 pub returns : goal.returns

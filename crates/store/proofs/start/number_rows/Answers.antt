@@ -1,4 +1,4 @@
-use Rattle.std.proofs.Common.{◌≡◌, length, sym, refl, ap, ◌∙◌, arith}
+use Rattle.std.proofs.Common.{◌≡◌, length, refl, arith}
 use Rattle.std.proofs.lemmas.List.{take_more_set, take_all}
 use Rattle.store.specs.Region.{numbers}
 use Rattle.store.proofs.RowNumbers.{numbers_more}

@@ -1,4 +1,4 @@
-use Rattle.std.proofs.Common.{◌≡◌, length, get_or, sym, ap, ◌∙◌, arith}
+use Rattle.std.proofs.Common.{length, get_or, sym, ap, ◌∙◌, arith}
 use Rattle.texts.proofs.Cells.{length_text_words}
 use Rattle.store.specs.Region.{capacity, items_of, blank}
 use Rattle.store.proofs.Regions.{items_count}

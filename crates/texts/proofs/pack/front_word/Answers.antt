@@ -1,4 +1,4 @@
-use Rattle.std.proofs.Common.{◌≡◌, sym, ap, ◌∙◌}
+use Rattle.std.proofs.Common.{ap, ◌∙◌}
 use Rattle.texts.specs.Words.{number_be}
 use Rattle.texts.proofs.Parts.{number_take}
 use Rattle.texts.proofs.pack.front_word.Goals as goal

@@ -1,4 +1,4 @@
-use Rattle.std.proofs.Common.{◌≡◌, sym, ◌∙◌}
+use Rattle.std.proofs.Common.{sym, ◌∙◌}
 use Rattle.texts.proofs.Parts.{number_eight}
 use Rattle.texts.proofs.pack.number8.Goals as goal
 

@@ -1,4 +1,4 @@
-use Rattle.std.proofs.Common.{◌≡◌, length, ◌∙◌, arith}
+use Rattle.std.proofs.Common.{length, ◌∙◌, arith}
 use Rattle.texts.proofs.Parts.{zeros_are}
 use Rattle.texts.proofs.pack.write_none.Goals as goal
 

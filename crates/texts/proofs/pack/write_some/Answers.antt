@@ -1,4 +1,4 @@
-use Rattle.std.proofs.Common.{◌≡◌, ℕ, ◌+◌, ◌-◌, length, take, drop, sym, refl, ap, ◌∙◌, arith}
+use Rattle.std.proofs.Common.{ℕ, ◌+◌, ◌-◌, length, ap, ◌∙◌, arith}
 use Rattle.texts.specs.Words.{cells}
 use Rattle.texts.proofs.Parts.{head_and_rest, long_from}
 use Rattle.texts.proofs.pack.write_some.Goals as goal

@@ -1,4 +1,4 @@
-use Rattle.std.proofs.Common.{◌≡◌, refl, ◌∙◌, div-one, arith}
+use Rattle.std.proofs.Common.{refl, ◌∙◌, div-one}
 use Rattle.texts.specs.Words.{bytes_be}
 use Rattle.texts.proofs.unpack.bytes8.Goals as goal
 
