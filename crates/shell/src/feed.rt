@@ -84,7 +84,7 @@ mod tests {
     fn the_rest_moves_to_the_front(rt: HostRuntime) {
         let mut buf = *b"abcdefgh";
         keep(&mut buf, 3, 6);
-        assert_eq!(rt; &buf[0..3], b"def");
+        assert_eq!(rt; &buf[0..3], b"def".as_slice());
     }
 
     #[test]
