@@ -1,13 +1,9 @@
 -- What words that hold a log give to the log's functions, and commands of one byte over and over.
-use Rattle.std.proofs.Common.{◌≡◌, ℕ, zero, suc, ◌+◌, ◌-◌, ◌*◌, ◌<◌, ◌≤◌, List, [], ◌∷◌, ◌++◌, length, take, drop, replicate, sym, refl, ap, ◌∙◌, subst, arith}
+use Rattle.std.proofs.Common.{◌≡◌, ℕ, zero, suc, ◌+◌, ◌-◌, ◌*◌, ◌<◌, ◌≤◌, List, [], length, take, drop, replicate, sym, refl, ap, ◌∙◌, subst, arith}
 use Rattle.std.proofs.lemmas.List.{length-replicate, take-replicate, drop-replicate}
-use Rattle.servers.specs.Server.{Entry}
-use Rattle.servers.specs.Store.{Command, put}
 use Rattle.texts.specs.Words.{All, Byte, Text, word}
-use Rattle.raft_log.specs.Rows.{log_words, log_region, GoodEntry, GoodCommand}
+use Rattle.raft_log.specs.Rows.{log_words, log_region}
 use Rattle.raft_log.specs.Bytes.{Sound}
-use Rattle.raft_log.specs.Numbers.{entry_by}
-use Rattle.raft_log.specs.declared.row.Numbers.{Numbers}
 use Rattle.raft_log.proofs.Rows.{length_region}
 use Rattle.raft_log.proofs.Sound.{sound_log}
 use Rattle.log_tests.specs.Held.{Held}

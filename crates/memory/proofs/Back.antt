@@ -1,13 +1,13 @@
 -- A memory is read back: the limits, the state and the region that it is of.
-use Rattle.std.proofs.Common.{◌≡◌, ℕ, zero, suc, ◌+◌, ◌-◌, ◌*◌, ◌<◌, ◌≤◌, Bool, true, false, List, [], ◌∷◌, ◌++◌, map, length, get_or, take, drop, replicate, sym, refl, ap, ◌∙◌, arith}
+use Rattle.std.proofs.Common.{◌≡◌, ℕ, ◌+◌, ◌*◌, Bool, List, ◌++◌, map, length, take, drop, sym, refl, ap, ◌∙◌, arith}
 use mathlib.Core.Path.{fun_ext}
 use Rattle.std.proofs.lemmas.List.{drop-drop, drop_at, take_at, length-map}
-use Rattle.servers.specs.Server.{Entry, Limits, State, last_of_all}
+use Rattle.servers.specs.Server.{Limits, State, last_of_all}
 use Rattle.raft_log.specs.Rows.{log_in, log_region}
-use Rattle.memory.specs.Words.{option_word, option_in, bits_of, bools, cache_words, cache_in}
+use Rattle.memory.specs.Words.{option_word, bits_of, bools, cache_words, cache_in}
 use Rattle.store.specs.Region.{items_of}
 use Rattle.memory.specs.Layout.{rest_of, memory_of, limits_in, log_part, region_in, state_in}
-use Rattle.memory.specs.Fits.{EntryFits, Mid}
+use Rattle.memory.specs.Fits.{Mid}
 use Rattle.raft_log.proofs.Rows.{length_region, log_again}
 use Rattle.memory.proofs.Parts.{option_again, options_again, bit_again, bits_again, length_cache_words, cache_again}
 

@@ -1,6 +1,6 @@
 -- What fits goes on to fit while commands are done: each adds one item to the store at most, and no more are done than are
 -- committed.
-use Rattle.std.proofs.Common.{◌≡◌, ℕ, zero, suc, ◌+◌, ◌<◌, ◌≤◌, Bool, true, false, ltb, List, [], ◌∷◌, length, refl, ap, ◌∙◌, arith}
+use Rattle.std.proofs.Common.{◌≡◌, ℕ, suc, ◌+◌, ◌<◌, ◌≤◌, true, ltb, List, [], ◌∷◌, length, ap, ◌∙◌, arith}
 use Rattle.std.proofs.lemmas.Bool.{ltb-true, ltb-false}
 use Rattle.servers.specs.Store.{pick, done, reply}
 use Rattle.servers.specs.Server.{Entry, Cached, Limits, State, set_at, with_done, is_new, do_one, do_all, dues, finished}
@@ -8,7 +8,7 @@ use Rattle.texts.specs.Words.{All}
 use Rattle.memory.specs.Words.{GoodCached}
 use Rattle.store.specs.Region.{items_of, region_do}
 use Rattle.store.proofs.Regions.{ok_do, items_do}
-use Rattle.memory.specs.Fits.{EntryFits, Head, Logged, Known, Kept, Mid, Fits}
+use Rattle.memory.specs.Fits.{EntryFits, Mid, Fits}
 use Rattle.memory.specs.Program.{region_all}
 use Rattle.servers.proofs.Tests.{bool_by, pick_by}
 use Rattle.memory.proofs.Each.{all_set, length_set_at, all_due}

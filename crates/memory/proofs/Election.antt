@@ -1,5 +1,5 @@
 -- What fits goes on to fit through what elections do: a newer term, a vote asked for and given, a vote heard, a candidacy.
-use Rattle.std.proofs.Common.{◌≡◌, ℕ, zero, suc, ◌+◌, ◌<◌, ◌≤◌, Bool, true, false, ◌&&◌, eqb, ltb, List, [], ◌∷◌, length, refl, ◌∙◌, arith}
+use Rattle.std.proofs.Common.{◌≡◌, ℕ, ◌+◌, ◌<◌, ◌≤◌, Bool, true, false, ◌&&◌, eqb, ltb, List, [], length, refl, ◌∙◌, arith}
 use Rattle.servers.specs.Store.{pick}
 use Rattle.servers.specs.Server.{
   Limits,
@@ -18,8 +18,7 @@ use Rattle.servers.specs.Server.{
   restarted,
 }
 use Rattle.memory.specs.Words.{OneBelow}
-use Rattle.texts.specs.Words.{All}
-use Rattle.memory.specs.Fits.{Head, Logged, Known, Kept, Mid, Fits}
+use Rattle.memory.specs.Fits.{Known, Fits}
 use Rattle.servers.proofs.Tests.{pick_by}
 use Rattle.memory.proofs.Each.{all_set, length_set_at, all_many, length_many}
 use Rattle.raft_log.proofs.Places.{last_index_row}

@@ -1,5 +1,5 @@
 -- What fits goes on to fit, whatever readable event comes.
-use Rattle.std.proofs.Common.{◌≡◌, ℕ, zero, suc, ◌+◌, ◌<◌, ◌≤◌, Bool, true, false, not, ◌&&◌, ◌||◌, eqb, ltb, leb, List, [], ◌∷◌, length, refl, arith}
+use Rattle.std.proofs.Common.{◌≡◌, ℕ, ◌+◌, ◌<◌, Bool, true, false, not, ◌&&◌, ◌||◌, eqb, ltb, leb, List, length, refl, arith}
 use Rattle.std.proofs.lemmas.Bool.{and_parts, leb-false, eqb-true, ltb-true, leb-true, both_ways}
 use Rattle.servers.specs.Store.{pick}
 use Rattle.servers.specs.Server.{

@@ -1,5 +1,5 @@
 -- From the tests that an event passes to what its commands and entries are: short enough for a row, and made of bytes.
-use Rattle.std.proofs.Common.{◌≡◌, ℕ, zero, suc, ◌<◌, ◌≤◌, Bool, true, false, ◌&&◌, ltb, leb, List, [], ◌∷◌, length, refl, arith}
+use Rattle.std.proofs.Common.{◌≡◌, ℕ, suc, Bool, true, ◌&&◌, ltb, leb, List, [], ◌∷◌, length, refl, arith}
 use Rattle.std.proofs.lemmas.Bool.{and_parts, ltb-true, leb-true}
 use Rattle.servers.specs.Store.{Perhaps, Command, get, put, remove, swap, drop_if}
 use Rattle.servers.specs.Server.{Entry, Limits, clients_there, all_short, all_short_entries, terms_below, short, last_of_all}

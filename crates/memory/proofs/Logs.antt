@@ -1,9 +1,9 @@
 -- Logs in a row from 1: cut, joined, settled, due.
-use Rattle.std.proofs.Common.{◌≡◌, ℕ, zero, suc, ◌+◌, ◌-◌, ◌/◌, ◌<◌, ◌≤◌, min, Bool, true, false, ◌&&◌, eqb, ltb, leb, ◌⊎◌, List, [], ◌∷◌, ◌++◌, length, refl, ap, inl, inr, arith}
+use Rattle.std.proofs.Common.{◌≡◌, ℕ, suc, ◌+◌, ◌-◌, ◌/◌, ◌≤◌, min, Bool, true, false, ◌&&◌, eqb, ltb, leb, List, [], ◌∷◌, length, refl, inl, inr, arith}
 use Rattle.std.proofs.lemmas.Bool.{cases_order, leb-false, lt-leb, and_parts, ne_eqb, lt-ltb, le-ltb, ltb-true, leb-true, both_ways}
 use Rattle.std.proofs.lemmas.List.{length-append}
 use Rattle.servers.specs.Store.{pick}
-use Rattle.servers.specs.Server.{Entry, Limits, State, last_index, up_to, entry_at, term_is, in_a_row, settled_to, have_it, due}
+use Rattle.servers.specs.Server.{Entry, Limits, State, up_to, entry_at, term_is, settled_to, have_it, due}
 use Rattle.raft_log.specs.Rows.{Row}
 use Rattle.servers.proofs.Tests.{bool_by, pick_by}
 

@@ -1,15 +1,15 @@
 -- The program is right, keeps its memory where it refuses, and has enough.
-use Rattle.std.proofs.Common.{◌≡◌, ℕ, ◌+◌, ◌*◌, ◌<◌, ◌≤◌, Bool, true, false, ◌&&◌, eqb, List, [], ◌∷◌, length, sym, refl, ap, ◌∙◌, arith}
+use Rattle.std.proofs.Common.{◌≡◌, ℕ, Bool, true, false, eqb, List, [], ◌∷◌, length, sym, refl, ap, ◌∙◌, arith}
 use Rattle.std.proofs.lemmas.Bool.{and_parts, ne_eqb}
-use Rattle.servers.specs.Server.{Limits, State, Event, many, no_cached, new_server, last_of_all, turned, after, answer, state}
-use Rattle.servers.specs.World.{Program, memory}
+use Rattle.servers.specs.Server.{Limits, State, Event, many, no_cached, new_server, turned, after, answer, state}
+use Rattle.servers.specs.World.{memory}
 use Rattle.servers.specs.Promise.{all_below, readable, all_readable, GoodLimits, Right, RefusalKeeps, EnoughMemory}
-use Rattle.texts.specs.Words.{All, word}
+use Rattle.texts.specs.Words.{word}
 use Rattle.memory.specs.Words.{GoodCached}
 use Rattle.store.specs.Region.{empty_region}
 use Rattle.store.proofs.Regions as region
-use Rattle.memory.specs.Layout.{memory_of, limits_in, state_in, region_in}
-use Rattle.memory.specs.Fits.{Head, Logged, Known, Kept, Mid, Fits}
+use Rattle.memory.specs.Layout.{memory_of, state_in, region_in}
+use Rattle.memory.specs.Fits.{Fits}
 use Rattle.memory.specs.Program.{region_after, called, says, program}
 use Rattle.servers.proofs.Tests.{pick_false}
 use Rattle.memory.proofs.Each.{all_many, length_many, below_all}

@@ -1,6 +1,6 @@
 -- What fits goes on to fit through what replication does: entries taken from a leader, what another says of entries, a request,
 -- and what a leader settles.
-use Rattle.std.proofs.Common.{◌≡◌, ℕ, zero, suc, ◌+◌, ◌-◌, ◌<◌, ◌≤◌, Bool, true, false, eqb, ltb, List, [], ◌∷◌, ◌++◌, length, sym, refl, ap, ◌∙◌, subst, arith}
+use Rattle.std.proofs.Common.{◌≡◌, ℕ, suc, ◌+◌, ◌-◌, ◌<◌, ◌≤◌, Bool, true, eqb, ltb, List, [], ◌∷◌, ◌++◌, length, sym, refl, ap, ◌∙◌, subst, arith}
 use Rattle.std.proofs.lemmas.Bool.{eqb-true, ltb-false}
 use Rattle.std.proofs.lemmas.List.{append-nil, length-append}
 use Rattle.servers.specs.Store.{Command}
@@ -34,7 +34,7 @@ use Rattle.servers.specs.Server.{
 use Rattle.texts.specs.Words.{All, word}
 use Rattle.raft_log.specs.Rows.{Row, GoodCommand}
 use Rattle.memory.specs.Words.{OneBelow}
-use Rattle.memory.specs.Fits.{EntryFits, Head, Logged, Known, Kept, Mid, Fits}
+use Rattle.memory.specs.Fits.{EntryFits, Known, Fits}
 use Rattle.servers.proofs.Tests.{pick_by}
 use Rattle.memory.proofs.Each.{all_append, all_set, length_set_at, all_nth, all_up_to}
 use Rattle.raft_log.proofs.Places.{last_index_row, row_up_to}

@@ -1,15 +1,15 @@
 -- How long a memory is, and that each of its numbers is a word.
-use Rattle.std.proofs.Common.{◌≡◌, ℕ, ◌+◌, ◌-◌, ◌*◌, ◌^◌, ◌<◌, ◌≤◌, Bool, List, [], ◌∷◌, ◌++◌, map, length, refl, arith}
+use Rattle.std.proofs.Common.{◌≡◌, ℕ, ◌+◌, ◌-◌, ◌*◌, Bool, List, ◌∷◌, ◌++◌, map, length, arith}
 use Rattle.std.proofs.lemmas.List.{length-append, length-map}
 use Rattle.servers.specs.Server.{Limits, State, last_of_all}
 use Rattle.servers.specs.Promise.{GoodLimits}
-use Rattle.texts.specs.Words.{All, word}
+use Rattle.texts.specs.Words.{All}
 use Rattle.store.proofs.Regions as region
 use Rattle.raft_log.specs.Rows.{log_words, log_region}
 use Rattle.raft_log.proofs.Rows.{length_region, log_low}
 use Rattle.memory.specs.Words.{option_word, bit, bits_of, cache_words}
 use Rattle.memory.specs.Layout.{rest_of, memory_of}
-use Rattle.memory.specs.Fits.{Head, Logged, Known, Kept, Mid, Fits}
+use Rattle.memory.specs.Fits.{Mid, Fits}
 use Rattle.memory.proofs.Each.{Word, all_append}
 use Rattle.memory.proofs.Parts.{option_low, options_low, bit_low, bits_below, length_cache_words, cache_low, zeros_low, matches_low}
 

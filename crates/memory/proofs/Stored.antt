@@ -1,5 +1,5 @@
 -- The abstract store through commands: its texts stay short, a command adds one item at most, and replies are short.
-use Rattle.std.proofs.Common.{◌≡◌, ℕ, zero, suc, ◌<◌, ◌≤◌, Bool, true, false, List, [], ◌∷◌, length, refl, arith}
+use Rattle.std.proofs.Common.{ℕ, suc, ◌≤◌, List, [], ◌∷◌, length, refl, arith}
 use Rattle.servers.specs.Store.{
   Perhaps,
   Command,

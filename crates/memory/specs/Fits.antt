@@ -1,6 +1,6 @@
 -- What holds of every state that readable events lead to, by groups, each over the fields that it is about: so a step that leaves
 -- a group's fields alone keeps its proof. Assumes nothing: these are definitions.
-use Rattle.std.specs.Prelude.{◌≡◌, ℕ, ◌+◌, ◌<◌, ◌≤◌, Bool, List, [], ◌∷◌, length}
+use Rattle.std.specs.Prelude.{◌≡◌, ℕ, ◌+◌, ◌<◌, ◌≤◌, Bool, List, length}
 use Rattle.servers.specs.Store.{Store}
 use Rattle.servers.specs.Server.{Entry, Cached, Limits, State, last_of_all}
 use Rattle.texts.specs.Words.{All}

@@ -10,7 +10,7 @@
 --   9     applied         10  length of the log
 --   11    role            12  votes, as bits              Words 5 to 10, sessions, log and store are kept over a restart;
 --   13    send                                            words 11 to 13, next and match index are set back.
-use Rattle.std.specs.Prelude.{ℕ, zero, suc, ◌+◌, ◌-◌, ◌*◌, Bool, true, false, List, [], ◌∷◌, ◌++◌, map, length, take, drop, ◌==◌, slice_index}
+use Rattle.std.specs.Prelude.{ℕ, ◌+◌, ◌*◌, Bool, List, ◌∷◌, ◌++◌, map, length, take, drop, ◌==◌, slice_index}
 use Rattle.servers.specs.Server.{Limits, State}
 use Rattle.raft_log.specs.Rows.{log_region, log_in}
 use Rattle.store.specs.Region.{items_of}

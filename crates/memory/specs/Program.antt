@@ -1,6 +1,6 @@
 -- The server as a program of the promises: memory is numbers, and an event leaves the memory of the state after it. And what is
 -- promised of this program. Assumes nothing: these are definitions and statements.
-use Rattle.std.specs.Prelude.{◌≡◌, ℕ, ◌<◌, Bool, true, false, List, [], ◌∷◌, ◌==◌}
+use Rattle.std.specs.Prelude.{◌≡◌, ℕ, ◌<◌, Bool, true, List, [], ◌∷◌, ◌==◌}
 use Rattle.servers.specs.Store.{pick}
 use Rattle.servers.specs.Server.{
   Entry,

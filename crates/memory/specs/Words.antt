@@ -1,9 +1,9 @@
 -- The parts of a server's state as words: options, bits, and what each client was last answered. Assumes nothing: these are
 -- definitions.
-use Rattle.std.specs.Prelude.{◌≡◌, ℕ, zero, suc, ◌+◌, ◌-◌, ◌*◌, ◌/◌, ◌%◌, ◌<◌, ◌≤◌, Bool, true, false, List, [], ◌∷◌, ◌++◌, take, drop, ◌==◌, slice_index}
-use Rattle.servers.specs.Store.{pick, Reply}
+use Rattle.std.specs.Prelude.{◌≡◌, ℕ, zero, suc, ◌+◌, ◌-◌, ◌*◌, ◌/◌, ◌%◌, ◌<◌, Bool, true, false, List, [], ◌∷◌, ◌++◌, take, drop, ◌==◌, slice_index}
+use Rattle.servers.specs.Store.{pick}
 use Rattle.servers.specs.Server.{Cached}
-use Rattle.texts.specs.Words.{All, PerhapsText, word, perhaps_words, perhaps_in}
+use Rattle.texts.specs.Words.{PerhapsText, word, perhaps_words, perhaps_in}
 
 -- a number or none: 0 for none, else one more
 abbrev pub option_word : List ℕ → ℕ

@@ -1,5 +1,7 @@
 // A server's memory: words that are a function of limits, state and the store's region, and what is promised of the program
 // over them. No code runs here; the functions carry theorems, so that the gate asks for them.
+#![tactic(auto)]
+
 ghost use Rattle.memory.specs.Program.{EachRight, EachKeeps, EachEnough, FitsOn, ServerStands};
 
 // The program does what the definitions say, after any readable events, whatever kinds of event it takes.

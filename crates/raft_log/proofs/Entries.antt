@@ -1,10 +1,10 @@
 -- Entries as bytes from their rows: an entry by its numbers and its command, and entries one after the other.
-use Rattle.std.proofs.Common.{◌≡◌, ℕ, zero, suc, ◌+◌, ◌-◌, ◌*◌, ◌<◌, ◌≤◌, List, [], ◌∷◌, ◌++◌, length, get_or, take, drop, sym, refl, ap, ◌∙◌, subst, arith}
-use Rattle.std.proofs.lemmas.List.{append_assoc, append-nil, take_all, length-drop}
-use Rattle.servers.specs.Server.{Entry, above}
+use Rattle.std.proofs.Common.{◌≡◌, ℕ, ◌+◌, ◌-◌, ◌*◌, ◌<◌, ◌≤◌, List, [], ◌∷◌, ◌++◌, length, get_or, take, drop, sym, ap, ◌∙◌, subst, arith}
+use Rattle.std.proofs.lemmas.List.{append_assoc, take_all, length-drop}
+use Rattle.servers.specs.Server.{above}
 use Rattle.wire.specs.Write.{write_number, write_command, write_entry, write_entries}
 use Rattle.raft_log.specs.Rows.{row_in, log_in, command_in}
-use Rattle.raft_log.specs.Places.{row_place, row_at, entry_in}
+use Rattle.raft_log.specs.Places.{row_place, entry_in}
 use Rattle.raft_log.specs.declared.row.Numbers.{Numbers}
 use Rattle.raft_log.specs.Numbers.{numbers_in}
 use Rattle.raft_log.specs.Bytes.{Sound, SoundRow, write_numbers}

@@ -1,11 +1,11 @@
 -- What the code reads at a place is what the list functions find.
-use Rattle.std.proofs.Common.{◌≡◌, ℕ, zero, suc, ◌+◌, ◌-◌, ◌*◌, ◌<◌, ◌≤◌, Bool, true, false, not, ◌&&◌, eqb, ◌⊎◌, List, [], ◌∷◌, ◌++◌, length, get_or, take, drop, sym, refl, ap, ◌∙◌, inl, inr, arith}
-use Rattle.std.proofs.lemmas.List.{drop-drop, drop-take, take-take, get_or-take, get_or-drop}
-use Rattle.servers.specs.Server.{Entry, entry_at, term_is, term_of, last_term}
+use Rattle.std.proofs.Common.{◌≡◌, ℕ, ◌+◌, ◌-◌, ◌<◌, ◌⊎◌, List, [], get_or, take, drop, sym, refl, ap, ◌∙◌, inl, inr, arith}
+use Rattle.std.proofs.lemmas.List.{drop-drop, drop-take, get_or-take, get_or-drop}
+use Rattle.servers.specs.Server.{entry_at, last_term}
 use Rattle.raft_log.specs.Rows.{row_in, log_in}
 use Rattle.raft_log.specs.Places.{row_place, row_at, entry_in}
 use Rattle.raft_log.specs.Numbers.{numbers_of, numbers_in}
-use Rattle.raft_log.proofs.Places.{log_in_row, log_in_more, entry_at_in, entry_at_none}
+use Rattle.raft_log.proofs.Places.{log_in_row, log_in_more, entry_at_none}
 
 -- a row as the code cuts it out, and its command
 pub row_part : (at i : ℕ) (ws : List ℕ) → at ≡ row_place i → take (at + 80 - at) (drop at ws) ≡ row_at i ws

@@ -1,13 +1,11 @@
 -- The list functions on a log that stands in rows, each by place: an entry is found at its index, the log up to an index is
 -- the first rows, and so on. Nothing is asked of the words.
-use Rattle.std.proofs.Common.{◌≡◌, ℕ, zero, suc, ◌+◌, ◌-◌, ◌*◌, ◌<◌, ◌≤◌, min, Bool, true, false, ◌&&◌, eqb, ltb, leb, ◌⊎◌, List, [], ◌∷◌, ◌++◌, length, get_or, take, drop, sym, refl, ap, ◌∙◌, inl, inr, arith}
+use Rattle.std.proofs.Common.{◌≡◌, ℕ, zero, suc, ◌+◌, ◌-◌, ◌<◌, ◌≤◌, min, Bool, false, ◌&&◌, ltb, leb, ◌⊎◌, List, [], ◌∷◌, ◌++◌, length, sym, refl, ap, inl, inr, arith}
 use Rattle.std.proofs.lemmas.Bool.Decides.{nat_tests}
 use Rattle.std.proofs.lemmas.Bool.{cases_lt, lt-ltb, le-ltb, lt-leb, le-leb, eq-eqb, ne_eqb}
-use Rattle.std.proofs.lemmas.List.{append-nil, length-append}
-use Rattle.servers.specs.Store.{pick}
-use Rattle.servers.specs.Server.{Entry, last_index, last_term, entry_at, term_is, term_of, above, up_to, due, in_a_row}
+use Rattle.servers.specs.Server.{Entry, last_index, entry_at, above, up_to, due}
 use Rattle.raft_log.specs.Rows.{row_in, log_in, Row}
-use Rattle.raft_log.specs.Places.{row_place, row_at, entry_in}
+use Rattle.raft_log.specs.Places.{entry_in}
 use Rattle.servers.proofs.Tests.{pick_by}
 
 -- a log that is read from rows is in a row, and as long as it was asked for

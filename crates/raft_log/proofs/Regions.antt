@@ -1,12 +1,12 @@
 -- The region of a log after a write: one row more at its end, or all after an index replaced by other entries.
-use Rattle.std.proofs.Common.{◌≡◌, ℕ, zero, suc, ◌+◌, ◌-◌, ◌*◌, ◌<◌, ◌≤◌, min, Bool, true, false, ◌&&◌, eqb, ltb, leb, List, [], ◌∷◌, ◌++◌, length, take, drop, replicate, sym, refl, ap, ◌∙◌, arith}
+use Rattle.std.proofs.Common.{◌≡◌, ℕ, suc, ◌+◌, ◌-◌, ◌*◌, ◌<◌, ◌≤◌, true, eqb, List, [], ◌∷◌, ◌++◌, length, drop, replicate, sym, refl, ap, ◌∙◌, arith}
 use borrow.Rule.Slice.PartMut.{put_mid}
 use Rattle.std.proofs.lemmas.Bool.{and_parts, eqb-true}
 use Rattle.std.proofs.lemmas.List.{append_assoc, append-nil, drop-drop, drop_at, take_at, drop-append-le, drop-replicate, length-append, length-drop, length-replicate, replicate-append-replicate}
 use Rattle.servers.specs.Server.{Entry, above, up_to, in_a_row}
 use Rattle.raft_log.specs.Rows.{row_words, log_words, log_region, Row}
 use Rattle.raft_log.proofs.Places.{cut, length_up_to, length_above}
-use Rattle.raft_log.proofs.Rows.{length_row, length_log_words}
+use Rattle.raft_log.proofs.Rows.{length_log_words}
 
 -- entries that are in a row after a log of i entries make a longer log
 pub row_append : (i : ℕ) (es log : List Entry) → in_a_row i es ≡ true → length log ≡ i → Row log → Row (es ++ log)

@@ -1,10 +1,10 @@
 -- Room for bytes that are written one after the other, and the bytes of an entry's parts.
-use Rattle.std.proofs.Common.{◌≡◌, ℕ, zero, suc, ◌+◌, ◌-◌, ◌*◌, ◌<◌, ◌≤◌, List, [], ◌∷◌, ◌++◌, length, refl, ap, ◌∙◌, arith}
+use Rattle.std.proofs.Common.{◌≡◌, ℕ, zero, suc, ◌+◌, ◌<◌, ◌≤◌, List, ◌∷◌, ◌++◌, length, refl, ap, ◌∙◌, arith}
 use Rattle.std.proofs.lemmas.List.{append-nil, length-append}
 use Rattle.servers.specs.Store.{Perhaps}
 use Rattle.wire.specs.Write.{write_number, write_text, write_command}
 use Rattle.wire_write.specs.Put.{Writes}
-use Rattle.wire_write.proofs.Putting.{length_put, writes_then}
+use Rattle.wire_write.proofs.Putting.{length_put}
 use Rattle.raft_log.specs.Rows.{command_by}
 use Rattle.raft_log.specs.Bytes.{write_numbers, write_parts}
 

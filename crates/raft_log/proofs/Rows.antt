@@ -1,7 +1,7 @@
 -- Rows and logs as words: how long they are, and that what was written is read back.
-use Rattle.std.proofs.Common.{◌≡◌, ℕ, zero, suc, ◌+◌, ◌-◌, ◌*◌, ◌<◌, ◌≤◌, List, [], ◌∷◌, ◌++◌, length, get_or, take, drop, replicate, sym, refl, ap, ◌∙◌, arith}
-use Rattle.std.proofs.lemmas.List.{append_assoc, append-nil, drop-drop, drop_at, take_at, take_all, length-append, length-replicate}
-use Rattle.servers.specs.Store.{pick, Perhaps, Command, get, put, remove, swap, drop_if}
+use Rattle.std.proofs.Common.{◌≡◌, ℕ, suc, ◌+◌, ◌-◌, ◌*◌, ◌<◌, ◌≤◌, List, [], ◌∷◌, ◌++◌, length, take, drop, replicate, refl, ap, ◌∙◌, arith}
+use Rattle.std.proofs.lemmas.List.{append_assoc, drop-drop, drop_at, take_at, take_all, length-append, length-replicate}
+use Rattle.servers.specs.Store.{Perhaps, Command, get, put, remove, swap, drop_if}
 use Rattle.servers.specs.Server.{Entry}
 use Rattle.texts.specs.Words.{All, word, text_words, text_in, perhaps_words, perhaps_in}
 use Rattle.texts.proofs.Cells.{length_text_words, length_perhaps_words, text_back, perhaps_back, text_fits, perhaps_fits}

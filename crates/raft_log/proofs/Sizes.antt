@@ -1,8 +1,7 @@
 -- How many bytes an entry takes, and that rows of entries can be written.
-use Rattle.std.proofs.Common.{◌≡◌, ℕ, zero, suc, ◌+◌, ◌-◌, ◌*◌, ◌<◌, ◌≤◌, Bool, true, false, ◌||◌, eqb, List, [], ◌∷◌, ◌++◌, length, get_or, take, drop, sym, refl, ap, ◌∙◌, arith}
-use Rattle.std.proofs.lemmas.Bool.{eq-eqb, ne_eqb, cases_eq}
+use Rattle.std.proofs.Common.{◌≡◌, ℕ, ◌+◌, ◌≤◌, ◌||◌, eqb, List, [], ◌++◌, length, get_or, take, drop, refl, ap, ◌∙◌, arith}
 use Rattle.std.proofs.lemmas.List.{length-append, length-drop, get_or-drop}
-use Rattle.servers.specs.Store.{pick, Perhaps}
+use Rattle.servers.specs.Store.{pick}
 use Rattle.texts.specs.Words.{text_in, perhaps_in}
 use Rattle.wire.specs.Write.{write_text, write_perhaps, write_command, write_entry}
 use Rattle.raft_log.specs.Rows.{row_in, command_in}

@@ -1,5 +1,5 @@
 -- Rows of entries can be written as bytes: what a region that holds a log gives to the writers.
-use Rattle.std.proofs.Common.{◌≡◌, ℕ, zero, suc, ◌+◌, ◌-◌, ◌*◌, ◌<◌, ◌≤◌, List, [], ◌∷◌, ◌++◌, length, get_or, take, drop, sym, refl, ap, ◌∙◌, subst, inl, inr, arith}
+use Rattle.std.proofs.Common.{◌≡◌, ℕ, suc, ◌-◌, ◌*◌, ◌<◌, ◌≤◌, List, [], ◌∷◌, ◌++◌, length, get_or, take, drop, sym, ap, ◌∙◌, subst, inl, inr, arith}
 use Rattle.std.proofs.lemmas.Bool.{cases_lt}
 use Rattle.std.proofs.lemmas.List.{append_assoc, drop_at, take_at, get_or_append_left, get_or-append_right}
 use Rattle.servers.specs.Store.{Perhaps, Command}
@@ -7,7 +7,7 @@ use Rattle.servers.specs.Server.{Entry}
 use Rattle.texts.specs.Words.{All, PerhapsText, text_words, perhaps_words}
 use Rattle.texts.proofs.Cells.{length_text_words, length_perhaps_words}
 use Rattle.raft_log.specs.Rows.{tag, name_of, expects, text_of, command_words, GoodCommand, row_words, log_words, GoodEntry}
-use Rattle.raft_log.specs.Places.{row_place, row_at}
+use Rattle.raft_log.specs.Places.{row_at}
 use Rattle.raft_log.specs.Bytes.{SoundCommand, SoundRow, Sound}
 use Rattle.raft_log.proofs.Rows.{length_row, length_log_words, tag_low}
 

@@ -1,5 +1,5 @@
 -- The bytes of an entry by its parts, and rows that can be written as bytes. Assumes nothing: these are definitions.
-use Rattle.std.specs.Prelude.{ℕ, ◌+◌, ◌<◌, ◌≤◌, Bool, true, false, not, ◌||◌, List, [], ◌∷◌, ◌++◌, drop, ◌==◌, slice_index_or}
+use Rattle.std.specs.Prelude.{ℕ, ◌+◌, ◌<◌, ◌≤◌, ◌||◌, List, [], ◌∷◌, ◌++◌, drop, ◌==◌, slice_index_or}
 use Rattle.servers.specs.Store.{pick, Perhaps}
 use Rattle.wire.specs.Write.{write_number, write_text, write_perhaps}
 use Rattle.raft_log.specs.Places.{row_at}

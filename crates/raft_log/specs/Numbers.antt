@@ -1,5 +1,5 @@
 -- The numbers of an entry as the code holds them. Assumes nothing: these are definitions.
-use Rattle.std.specs.Prelude.{◌≡◌, ℕ, List, [], ◌∷◌, Some, None, Option, slice_index}
+use Rattle.std.specs.Prelude.{ℕ, List, [], ◌∷◌, Some, None, Option, slice_index}
 use Rattle.servers.specs.Store.{Command}
 use Rattle.servers.specs.Server.{Entry}
 use Rattle.raft_log.specs.declared.row.Numbers.{Numbers}

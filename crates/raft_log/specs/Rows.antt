@@ -1,6 +1,6 @@
 -- A log as words: a row of 80 words for each entry, at the place that its index gives, from 1; rows past the log's end are
 -- zero. So the words are a function of the log. Assumes nothing: these are definitions.
-use Rattle.std.specs.Prelude.{◌≡◌, ℕ, zero, suc, ◌+◌, ◌-◌, ◌*◌, ◌<◌, ◌≤◌, Bool, true, false, List, [], ◌∷◌, ◌++◌, length, take, drop, replicate, slice_index}
+use Rattle.std.specs.Prelude.{◌≡◌, ℕ, zero, suc, ◌-◌, ◌*◌, ◌<◌, ◌≤◌, List, [], ◌∷◌, ◌++◌, length, take, drop, replicate, slice_index}
 use Rattle.servers.specs.Server.{Entry}
 use Rattle.texts.specs.Words.{word}
 pub use Rattle.texts.specs.Commands.{tag, name_of, expects, text_of, command_by, command_words, command_in, GoodCommand}

@@ -1,5 +1,5 @@
 -- Writing words of the head: each write is one change of the state.
-use Rattle.std.proofs.Common.{◌≡◌, ℕ, zero, suc, ◌+◌, ◌^◌, ◌<◌, ◌≤◌, Bool, true, false, List, [], ◌∷◌, length, get_or, set, sym, refl, ap, ◌∙◌, arith}
+use Rattle.std.proofs.Common.{◌≡◌, ℕ, suc, ◌+◌, ◌^◌, ◌<◌, ◌≤◌, Bool, true, false, List, get_or, set, sym, refl, ap, ◌∙◌, arith}
 use Rattle.servers.specs.Server.{
   Limits,
   State,
@@ -16,11 +16,10 @@ use Rattle.servers.specs.Server.{
 }
 use Rattle.memory.specs.Words.{bit, bits_of}
 use Rattle.memory.specs.Layout.{servers_in, me_in, room_in, region_in, memory_of}
-use Rattle.memory.specs.Fits.{Head, Logged, Known, Kept}
 use Rattle.memory.proofs.Each.{length_many}
 use Rattle.memory.proofs.Election.{fits_wants, known_votes}
 use Rattle.memory.proofs.Replication.{fits_following}
-use Rattle.state.specs.Held.{limits_of, state_of, Held, Turns, Becomes}
+use Rattle.state.specs.Held.{limits_of, state_of, Held, Becomes}
 use Rattle.state.specs.States.{with_kind, calmed}
 use Rattle.state.proofs.Laws.{becomes, written}
 use Rattle.state.proofs.VoteBits.{none_bits, own_bits}

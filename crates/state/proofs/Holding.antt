@@ -1,5 +1,5 @@
 -- The server's memory is held after any readable events.
-use Rattle.std.proofs.Common.{◌≡◌, ℕ, ◌<◌, ◌≤◌, Bool, true, List, sym, refl, ap, ◌∙◌, subst}
+use Rattle.std.proofs.Common.{◌≡◌, ℕ, true, List, sym, ap, ◌∙◌, subst}
 use Rattle.servers.specs.Server.{Limits, State, Event, state}
 use Rattle.servers.specs.World.{memory}
 use Rattle.servers.specs.Promise.{GoodLimits, all_readable}
@@ -7,8 +7,8 @@ use Rattle.memory.specs.Layout.{memory_of, region_in}
 use Rattle.memory.specs.Fits.{Bounded, Fits}
 use Rattle.memory.specs.Program.{serves, server}
 use Rattle.memory.proofs.Back.{state_back, limits_back, region_back}
-use Rattle.memory.proofs.Program.{Holds, holds}
-use Rattle.state.specs.Held.{limits_of, state_of, Held, Holding}
+use Rattle.memory.proofs.Program.{holds}
+use Rattle.state.specs.Held.{limits_of, state_of, Holding}
 
 bounded : (l : Limits) → GoodLimits serves l → Bounded l
 bounded l g =

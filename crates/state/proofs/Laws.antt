@@ -1,9 +1,9 @@
 -- From a memory that is held to the next: leaf, chain and top.
-use Rattle.std.proofs.Common.{◌≡◌, ℕ, zero, suc, ◌+◌, ◌*◌, ◌<◌, ◌≤◌, List, [], ◌∷◌, ◌++◌, length, get_or, take, drop, sym, refl, ap, ◌∙◌, subst, arith}
+use Rattle.std.proofs.Common.{◌≡◌, ℕ, ◌+◌, ◌*◌, ◌≤◌, List, length, get_or, sym, refl, ap, ◌∙◌, subst, arith}
 use Rattle.servers.specs.Server.{Limits, State, Event, last_index, after}
 use Rattle.raft_log.proofs.Places.{log_in_row, last_index_row}
 use Rattle.memory.specs.Layout.{memory_of, region_in, servers_in, clients_in, room_in, log_part}
-use Rattle.memory.specs.Fits.{Bounded, Mid, Fits}
+use Rattle.memory.specs.Fits.{Bounded, Fits}
 use Rattle.memory.specs.Program.{serves, region_after, called}
 use Rattle.memory.proofs.Back.{state_back, region_back}
 use Rattle.memory.proofs.Size.{length_memory}

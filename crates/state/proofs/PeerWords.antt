@@ -1,19 +1,18 @@
 -- The words of each server, next and match index, read and written; and the votes.
-use Rattle.std.proofs.Common.{◌≡◌, ℕ, zero, suc, ◌+◌, ◌-◌, ◌*◌, ◌^◌, ◌<◌, ◌≤◌, Bool, true, false, eqb, List, [], ◌∷◌, ◌++◌, map, length, get_or, take, drop, set, replicate, sym, refl, ap, ◌∙◌, arith}
+use Rattle.std.proofs.Common.{◌≡◌, ℕ, zero, suc, ◌+◌, ◌-◌, ◌*◌, ◌^◌, ◌<◌, ◌≤◌, Bool, true, eqb, List, [], ◌∷◌, ◌++◌, map, length, get_or, take, drop, set, replicate, sym, refl, ap, ◌∙◌, arith}
 use lib.Bits.{bit_or}
 use borrow.Rule.Slice.PartMut.{put_mid}
 use Rattle.std.proofs.lemmas.List.{append_assoc, drop-drop, drop_at, length-take-le, length-drop, length-map, get_or-drop, get_or-take, get_or-map, map-set, set-append_left, set-append_right, replicate-append-replicate}
 use Rattle.servers.specs.Store.{pick}
-use Rattle.servers.specs.Server.{Limits, State, nth, set_at, many, last_index, next_of, next_for, with_next, with_match}
+use Rattle.servers.specs.Server.{Limits, State, nth, set_at, many, last_index, next_of, next_for, with_next}
 use Rattle.raft_log.specs.Rows.{log_region}
 use Rattle.memory.specs.Words.{option_word, option_in, bits_of, cache_words}
-use Rattle.memory.specs.Layout.{rest_of, memory_of, servers_in, me_in, room_in, region_in, log_part}
-use Rattle.memory.specs.Fits.{Head, Logged, Known, Kept}
+use Rattle.memory.specs.Layout.{rest_of, memory_of, servers_in, room_in, region_in}
 use Rattle.servers.proofs.Tests.{bool_by}
 use Rattle.memory.proofs.Each.{length_set_at}
 use Rattle.memory.proofs.Election.{none_known, known_match, known_votes}
 use Rattle.memory.proofs.Replication.{known_next, next_fits, match_fits}
-use Rattle.state.specs.Held.{limits_of, state_of, Held, Turns, Becomes}
+use Rattle.state.specs.Held.{limits_of, state_of, Held, Becomes}
 use Rattle.state.specs.States.{with_matches, with_votes, forgot}
 use Rattle.state.proofs.Laws.{becomes, long, last_is}
 use Rattle.state.proofs.VoteBits.{bits_or}

@@ -1,34 +1,20 @@
 -- The parts of a memory that other crates change, handed out and put back: the log, a client's session, the store. Each crate speaks
 -- of its part alone; here is what that makes of the whole.
-use Rattle.std.proofs.Common.{◌≡◌, ℕ, zero, suc, ◌+◌, ◌-◌, ◌*◌, ◌<◌, ◌≤◌, List, [], ◌∷◌, ◌++◌, map, length, get_or, take, drop, set, sym, refl, ap, ◌∙◌, arith}
+use Rattle.std.proofs.Common.{◌≡◌, ℕ, ◌+◌, ◌*◌, ◌≤◌, List, ◌++◌, map, length, take, set, sym, ap, ◌∙◌, arith}
 use borrow.Rule.Slice.PartMut.{put_mid}
-use Rattle.std.proofs.lemmas.List.{append_assoc, append-nil, drop-drop, drop_at, take_at, length-append, length-map}
-use Rattle.servers.specs.Store.{Store}
-use Rattle.servers.specs.Server.{Entry, Cached, Limits, State, set_at, no_cached, nth, with_log, with_done}
+use Rattle.std.proofs.lemmas.List.{append_assoc, length-append, length-map}
+use Rattle.servers.specs.Server.{Entry, Limits, State, with_log}
 use Rattle.texts.specs.Words.{All}
 use Rattle.raft_log.specs.Rows.{Row, log_region}
-use Rattle.memory.specs.Words.{option_word, cached_words, cached_in, cache_words, cache_in, GoodCached}
-use Rattle.store.specs.Region.{items_of, GoodItem, RegionOk}
-use Rattle.memory.specs.Layout.{
-  rest_of,
-  memory_of,
-  servers_in,
-  clients_in,
-  room_in,
-  log_at,
-  cache_at,
-  store_at,
-  log_part,
-  region_in,
-}
-use Rattle.memory.specs.Fits.{EntryFits, Head, Logged, Known, Kept, Mid, Fits}
+use Rattle.memory.specs.Words.{option_word, cache_words}
+use Rattle.memory.specs.Layout.{memory_of, room_in, log_at, log_part, region_in}
+use Rattle.memory.specs.Fits.{EntryFits, Mid}
 use Rattle.raft_log.proofs.Rows.{length_region}
 use Rattle.raft_log.proofs.Regions.{put_part}
 use Rattle.memory.proofs.Back.{log_back}
-use Rattle.memory.proofs.Parts.{length_cached, length_cache_words}
-use Rattle.memory.proofs.Size.{length_memory}
-use Rattle.state.specs.Held.{limits_of, state_of, Held, Turns, Becomes}
-use Rattle.state.proofs.Laws.{turns, becomes}
+use Rattle.memory.proofs.Parts.{length_cache_words}
+use Rattle.state.specs.Held.{limits_of, state_of, Held, Becomes}
+use Rattle.state.proofs.Laws.{becomes}
 
 -- the words before the sessions
 abbrev pub peers : Limits → State → List ℕ

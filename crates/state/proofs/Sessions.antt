@@ -1,5 +1,5 @@
 -- A client's session and the store, handed out and put back.
-use Rattle.std.proofs.Common.{◌≡◌, ℕ, zero, suc, ◌+◌, ◌-◌, ◌*◌, ◌<◌, ◌≤◌, List, [], ◌∷◌, ◌++◌, map, length, get_or, take, drop, set, sym, refl, ap, ◌∙◌, arith}
+use Rattle.std.proofs.Common.{◌≡◌, ℕ, zero, suc, ◌+◌, ◌*◌, ◌<◌, ◌≤◌, List, [], ◌∷◌, ◌++◌, map, length, take, drop, sym, refl, ap, ◌∙◌, arith}
 use borrow.Rule.Slice.PartMut.{put_mid}
 use Rattle.std.proofs.lemmas.List.{append_assoc, append-nil, drop-drop, drop_at, take_at, length-append, length-take-le}
 use Rattle.servers.specs.Store.{Store}
@@ -10,13 +10,13 @@ use Rattle.raft_log.specs.Rows.{log_region}
 use Rattle.raft_log.proofs.Rows.{length_region}
 use Rattle.raft_log.proofs.Regions.{put_part}
 use Rattle.memory.specs.Words.{option_word, cached_words, cache_words, GoodCached}
-use Rattle.memory.specs.Layout.{rest_of, memory_of, servers_in, clients_in, room_in, cache_at, store_at, region_in}
-use Rattle.memory.specs.Fits.{Head, Logged, Known, Kept, Mid, Fits}
+use Rattle.memory.specs.Layout.{memory_of, clients_in, room_in, cache_at, store_at, region_in}
+use Rattle.memory.specs.Fits.{Mid}
 use Rattle.memory.proofs.Each.{all_set, length_set_at}
 use Rattle.memory.proofs.Parts.{length_cached, length_cache_words}
 use Rattle.memory.proofs.Back.{at_cache}
 use Rattle.state.specs.Held.{limits_of, state_of, Held, Turns, Becomes}
-use Rattle.state.proofs.Laws.{turns, becomes, long}
+use Rattle.state.proofs.Laws.{turns, becomes}
 use Rattle.state.proofs.PutBack.{peers, length_peers}
 
 -- sessions before and after one

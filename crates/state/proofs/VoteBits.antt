@@ -2,7 +2,6 @@
 use Rattle.std.proofs.Common.{◌≡◌, ℕ, zero, suc, ◌+◌, ◌*◌, ◌/◌, ◌%◌, ◌^◌, ◌<◌, ◌≤◌, max, Bool, true, false, List, [], ◌∷◌, length, sym, refl, ap, ◌∙◌, pow-suc, arith}
 use lib.Bits.{bit_or, or_step, or_zero_r}
 use lib.Count.{ones, ones_in, ones_step}
-use native.Mathlib.Nat.{pow-zero}
 use Rattle.servers.specs.Server.{many, set_at, count}
 use Rattle.memory.specs.Words.{bit, bits_of}
 use Rattle.memory.proofs.Each.{length_many}

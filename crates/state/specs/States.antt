@@ -1,5 +1,5 @@
 -- States with one thing other than before, beside those of the definitions. Assumes nothing: these are definitions.
-use Rattle.std.specs.Prelude.{ℕ, Bool, true, false, List, [], ◌∷◌}
+use Rattle.std.specs.Prelude.{ℕ, Bool, false, List, []}
 use Rattle.servers.specs.Server.{Limits, State, many}
 
 abbrev pub with_matches : List ℕ → State → State

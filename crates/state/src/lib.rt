@@ -1,4 +1,6 @@
 // A server's state in its words: what each word holds, read and written, proved against the states of the definitions.
+#![tactic(auto)]
+
 ghost use Rattle.state.specs.Held.{AlwaysHeld};
 
 pub mod head;

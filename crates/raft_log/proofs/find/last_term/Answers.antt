@@ -1,4 +1,4 @@
-use Rattle.std.proofs.Common.{◌≡◌, sym, ◌∙◌, arith}
+use Rattle.std.proofs.Common.{sym, ◌∙◌, arith}
 use Rattle.raft_log.proofs.find.last_term.Goals as goal
 use Rattle.raft_log.proofs.Found.{last_none, last_some}
 

@@ -1,4 +1,4 @@
-use Rattle.std.proofs.Common.{◌≡◌, ap, ◌∙◌}
+use Rattle.std.proofs.Common.{ap, ◌∙◌}
 use Rattle.raft_log.specs.Numbers.{numbers_in}
 use Rattle.raft_log.proofs.find.numbers_at.Goals as goal
 use Rattle.raft_log.proofs.Found.{row_part, numbers_read}

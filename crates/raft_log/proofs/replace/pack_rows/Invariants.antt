@@ -1,4 +1,4 @@
-use Rattle.std.proofs.Common.{◌≡◌, ◌*◌, ◌≤◌, ◌++◌, length, drop}
+use Rattle.std.proofs.Common.{◌≡◌, ◌*◌, ◌≤◌, ◌++◌, drop}
 use Rattle.wire_read.specs.Means.{EntriesIn, entries_of}
 use Rattle.raft_log.specs.Rows.{log_words}
 use Rattle.raft_log.proofs.replace.pack_rows.Given as goal

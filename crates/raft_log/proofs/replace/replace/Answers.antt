@@ -1,8 +1,7 @@
-use Rattle.std.proofs.Common.{◌≡◌, ℕ, ◌+◌, ◌-◌, ◌*◌, List, ◌++◌, length, replicate, sym, refl, ap, ◌∙◌, arith}
+use Rattle.std.proofs.Common.{◌≡◌, ℕ, ◌+◌, ◌-◌, ◌*◌, List, length, replicate, refl, ap, ◌∙◌, arith}
 use borrow.Rule.Slice.PartMut.{put_mid}
 use Rattle.servers.specs.Server.{Entry}
 use Rattle.wire_read.specs.Means.{entries_of}
-use Rattle.raft_log.specs.Rows.{log_region}
 use Rattle.raft_log.proofs.replace.replace.Goals as goal
 use Rattle.raft_log.proofs.Rows.{length_region}
 use Rattle.raft_log.proofs.Regions.{replacing, written, cleared, none_left}

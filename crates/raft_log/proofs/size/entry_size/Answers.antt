@@ -1,6 +1,6 @@
-use Rattle.std.proofs.Common.{◌≡◌, ℕ, List, sym, ap, ◌∙◌, arith}
+use Rattle.std.proofs.Common.{ℕ, List, arith}
 use Rattle.raft_log.proofs.size.entry_size.Goals as goal
-use Rattle.raft_log.proofs.Sizes.{entry_long_is, entry_long, entry_most}
+use Rattle.raft_log.proofs.Sizes.{entry_long, entry_most}
 
 pub returns : goal.returns
 returns c =

@@ -1,4 +1,4 @@
-use Rattle.std.proofs.Common.{◌≡◌, ℕ, List, ◌++◌, length, arith}
+use Rattle.std.proofs.Common.{ℕ, List, ◌++◌, length, arith}
 use Rattle.raft_log.proofs.write.write_command.Goals as goal
 use Rattle.raft_log.proofs.Written.{length_part}
 use Rattle.raft_log.proofs.Rooms.{room_first, room_next}

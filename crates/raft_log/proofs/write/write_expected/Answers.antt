@@ -1,4 +1,4 @@
-use Rattle.std.proofs.Common.{◌≡◌, ℕ, Bool, List, [], sym, ap, arith}
+use Rattle.std.proofs.Common.{Bool, [], sym, ap, arith}
 use Rattle.std.proofs.lemmas.Bool.{ne_eqb}
 use Rattle.servers.specs.Store.{pick}
 use Rattle.texts.specs.Words.{perhaps_in}

@@ -1,4 +1,4 @@
-use Rattle.std.proofs.Common.{◌≡◌, ℕ, Bool, true, ◌||◌, eqb, List, [], sym, ap, arith}
+use Rattle.std.proofs.Common.{◌≡◌, Bool, true, ◌||◌, eqb, [], sym, ap, arith}
 use Rattle.std.proofs.lemmas.Bool.Decides.{nat_tests}
 use Rattle.servers.specs.Store.{pick}
 use Rattle.texts.specs.Words.{text_in}

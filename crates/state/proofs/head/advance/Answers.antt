@@ -1,6 +1,6 @@
-use Rattle.std.proofs.Common.{◌<◌, ◌≤◌, sym, refl, arith}
+use Rattle.std.proofs.Common.{◌<◌, ◌≤◌, sym, arith}
 use Rattle.std.proofs.lemmas.Bool.{lt-ltb, le-ltb}
-use Rattle.servers.specs.Server.{with_term, advanced}
+use Rattle.servers.specs.Server.{with_term}
 use Rattle.servers.proofs.Tests.{pick_true, pick_false}
 use Rattle.state.specs.Held.{state_of}
 use Rattle.state.proofs.Laws.{stays, said}

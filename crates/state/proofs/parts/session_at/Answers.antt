@@ -1,4 +1,4 @@
-use Rattle.std.proofs.Common.{◌≡◌, arith}
+use Rattle.std.proofs.Common.{arith}
 use Rattle.state.proofs.parts.session_at.Goals as goal
 use Rattle.state.proofs.Laws.{long}
 

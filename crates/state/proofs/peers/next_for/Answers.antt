@@ -1,8 +1,5 @@
-use Rattle.std.proofs.Common.{◌≡◌, ℕ, ◌+◌, ◌<◌, ◌≤◌, get_or, sym, ◌∙◌, arith, eq-eqb, ne_eqb}
-use Rattle.servers.specs.Server.{next_for}
-use Rattle.memory.specs.Layout.{room_in}
+use Rattle.std.proofs.Common.{sym, ◌∙◌, arith, eq-eqb, ne_eqb}
 use Rattle.servers.proofs.Tests.{pick_true, pick_false}
-use Rattle.state.specs.Held.{state_of}
 use Rattle.state.proofs.peers.next_for.Goals as goal
 use Rattle.state.proofs.Laws.{long}
 use Rattle.state.proofs.PeerWords.{next_is, next_low}

@@ -1,4 +1,4 @@
-use Rattle.std.proofs.Common.{◌≡◌, ℕ, ◌/◌, ltb, get_or, ap, ◌∙◌}
+use Rattle.std.proofs.Common.{◌/◌, ltb, get_or, ap, ◌∙◌}
 use lib.Count.{ones}
 use Rattle.memory.specs.Layout.{servers_in}
 use Rattle.state.specs.Held.{state_of}
