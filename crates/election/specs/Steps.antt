@@ -1,7 +1,7 @@
 -- Steps of an election that the definitions take at once. Assumes nothing: these are definitions.
-use Rattle.std.specs.Prelude.{◌≡◌, Bool, true, false, ◌||◌, ◌&&◌, List, [], ◌∷◌, ℕ, ltb, leb, eqb}
+use Rattle.std.specs.Prelude.{Bool, true, ◌||◌, ◌&&◌, ℕ, ltb, leb, eqb}
 use Rattle.servers.specs.Store.{pick}
-use Rattle.servers.specs.Server.{Message, vote, Letter, Limits, State, many, set_at, last_index, last_of_all, won}
+use Rattle.servers.specs.Server.{vote, Letter, Limits, State, many, set_at, last_index, last_of_all, won}
 use Rattle.state.specs.States.{with_matches, with_votes, with_kind, forgot}
 use Rattle.election.specs.declared.ask_vote.Vote.{Vote}
 

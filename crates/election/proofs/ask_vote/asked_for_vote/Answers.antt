@@ -1,6 +1,6 @@
 use Rattle.std.proofs.Common.{◌≡◌, Bool, true, false, not, ◌&&◌, ℕ, ◌<◌, ◌≤◌, refl, sym, ap, ◌∙◌, arith}
 use Rattle.std.proofs.lemmas.Bool.{lt-ltb, le-ltb}
-use Rattle.servers.specs.Server.{State, with_voted, advanced, as_new, empty, may_vote, grants, asked}
+use Rattle.servers.specs.Server.{State, with_voted, advanced, as_new, empty, may_vote, grants}
 use Rattle.servers.proofs.Tests.{pick_true, pick_false}
 use Rattle.state.specs.Held.{state_of}
 use Rattle.state.proofs.Laws.{stays, said, then_to}

@@ -1,4 +1,3 @@
-use Rattle.servers.specs.Server.{restarted}
 use Rattle.state.specs.Held.{limits_of, state_of}
 use Rattle.state.specs.States.{forgot, calmed}
 use Rattle.state.proofs.Laws.{next_then}
