@@ -1,5 +1,5 @@
 -- The log's part of a memory: lent, and put back with one entry more, or with other entries after an index.
-use Rattle.std.proofs.Common.{◌≡◌, ℕ, zero, suc, ◌+◌, ◌-◌, ◌*◌, ◌<◌, ◌≤◌, min, Bool, true, false, List, [], ◌∷◌, ◌++◌, length, get_or, take, drop, set, sym, refl, ap, ◌∙◌, arith}
+use Rattle.std.proofs.Common.{◌≡◌, ℕ, suc, ◌+◌, ◌*◌, ◌<◌, ◌≤◌, true, List, [], ◌∷◌, length, take, drop, set, ap, ◌∙◌, arith}
 use borrow.Rule.Slice.PartMut.{put_mid}
 use Rattle.std.proofs.lemmas.List.{length-append, nil_from_length}
 use Rattle.servers.specs.Store.{Command}
@@ -8,14 +8,14 @@ use Rattle.texts.specs.Words.{All}
 use Rattle.wire_read.specs.Means.{entries_of, EntriesIn}
 use Rattle.wire_read.specs.declared.parts.Entries.{Entries}
 use Rattle.wire_read.proofs.Passing.{entries_length}
-use Rattle.raft_log.specs.Rows.{log_region, log_in}
+use Rattle.raft_log.specs.Rows.{log_region}
 use Rattle.raft_log.specs.declared.row.Numbers.{Numbers}
 use Rattle.raft_log.proofs.Places.{last_index_row, row_up_to, length_up_to}
 use Rattle.raft_log.proofs.Regions.{row_append}
-use Rattle.memory.specs.Layout.{room_in, log_at, log_part}
+use Rattle.memory.specs.Layout.{room_in, log_at}
 use Rattle.memory.specs.Fits.{EntryFits}
 use Rattle.memory.proofs.Each.{all_append, all_up_to}
-use Rattle.state.specs.Held.{limits_of, state_of, Held, Turns, Becomes}
+use Rattle.state.specs.Held.{limits_of, state_of, Held, Becomes}
 use Rattle.state.proofs.PutBack.{log_held, log_written}
 use Rattle.entries.specs.Steps.{next_entry, pushed, joined, replaced}
 

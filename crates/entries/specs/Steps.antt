@@ -1,25 +1,8 @@
 -- Steps of the two events that write the log, which the definitions take at once, and what entries have that a log can take.
 -- Assumes nothing: these are definitions.
-use Rattle.std.specs.Prelude.{◌≡◌, ℕ, suc, ◌+◌, ◌≤◌, Bool, true, false, not, ◌&&◌, ◌||◌, List, [], ◌∷◌, ◌++◌, ◌==◌, nat_lt}
+use Rattle.std.specs.Prelude.{◌≡◌, ℕ, suc, ◌+◌, ◌≤◌, Bool, true, not, ◌&&◌, ◌||◌, List, ◌∷◌, ◌++◌, ◌==◌, nat_lt}
 use Rattle.servers.specs.Store.{pick, Command}
-use Rattle.servers.specs.Server.{
-  Entry,
-  Letter,
-  Message,
-  appended,
-  Limits,
-  State,
-  last_index,
-  last_term,
-  in_a_row,
-  entry_at,
-  up_to,
-  term_is,
-  at_least,
-  at_most,
-  with_log,
-  after_append,
-}
+use Rattle.servers.specs.Server.{Entry, Letter, appended, State, last_index, last_term, in_a_row, entry_at, up_to, term_is, at_least, at_most, with_log, after_append}
 use Rattle.raft_log.specs.Numbers.{entry_by}
 use Rattle.raft_log.specs.declared.row.Numbers.{Numbers}
 use Rattle.wire_read.specs.Means.{entries_of, EntriesIn}

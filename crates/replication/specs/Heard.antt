@@ -1,5 +1,5 @@
 -- What another server says of entries, by cases, and the state that each leads to. Assumes nothing: these are definitions.
-use Rattle.std.specs.Prelude.{ℕ, suc, ◌-◌, Bool, true, false, List, [], ◌∷◌, ◌==◌}
+use Rattle.std.specs.Prelude.{ℕ, suc, ◌-◌, Bool, ◌==◌}
 use Rattle.servers.specs.Store.{pick}
 use Rattle.servers.specs.Server.{State, nth, at_least, next_for, with_match, with_next, advanced}
 use Rattle.replication.specs.declared.appended.Heard.{Heard}

@@ -1,8 +1,7 @@
 use Rattle.std.proofs.Common.{◌≡◌, ℕ, List, sym, ap, ◌∙◌}
-use Rattle.servers.specs.Server.{State, Entry}
+use Rattle.servers.specs.Server.{Entry}
 use Rattle.wire_read.specs.Means.{entries_of}
 use Rattle.raft_log.specs.Rows.{log_in}
-use Rattle.memory.specs.Layout.{log_part}
 use Rattle.state.specs.Held.{state_of}
 use Rattle.entries.specs.declared.append.Last.{Last}
 use Rattle.entries.proofs.append.has_new.Goals as goal

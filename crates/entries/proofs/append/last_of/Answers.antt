@@ -1,4 +1,4 @@
-use Rattle.std.proofs.Common.{◌≡◌, sym, ap}
+use Rattle.std.proofs.Common.{sym, ap}
 use Rattle.entries.specs.Steps.{last_in}
 use Rattle.entries.proofs.append.last_of.Goals as goal
 use Rattle.entries.proofs.Logs.{none_there}

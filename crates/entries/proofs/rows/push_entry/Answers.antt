@@ -1,4 +1,4 @@
-use Rattle.std.proofs.Common.{◌≡◌, ℕ, suc, ◌+◌, ◌-◌, ◌*◌, List, sym, ap, ◌∙◌, arith}
+use Rattle.std.proofs.Common.{◌≡◌, ℕ, suc, ◌+◌, ◌-◌, ◌*◌, List, ap, arith}
 use Rattle.servers.specs.Server.{State, last_index}
 use Rattle.servers.specs.declared.limits.Limits.{Limits}
 use Rattle.wire_read.specs.Means.{command_of}

@@ -1,4 +1,4 @@
-use Rattle.std.proofs.Common.{◌≡◌, ℕ, ◌+◌, ◌-◌, ◌*◌, List, sym, ap, ◌∙◌, arith}
+use Rattle.std.proofs.Common.{◌≡◌, ℕ, ◌+◌, ◌-◌, ◌*◌, List, ap, arith}
 use Rattle.servers.specs.Server.{State}
 use Rattle.servers.specs.declared.limits.Limits.{Limits}
 use Rattle.wire_read.specs.Means.{entries_of}

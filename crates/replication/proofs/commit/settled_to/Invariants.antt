@@ -1,4 +1,4 @@
-use Rattle.std.proofs.Common.{◌≡◌, ◌+◌, ◌-◌, ◌/◌, ◌<◌, ◌≤◌, drop}
+use Rattle.std.proofs.Common.{◌≡◌, ◌+◌, ◌/◌, ◌≤◌, drop}
 use Rattle.servers.specs.Server.{have_it, settled_to}
 use Rattle.raft_log.specs.Rows.{log_in}
 use Rattle.memory.specs.Layout.{log_part, room_in}
