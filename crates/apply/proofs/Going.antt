@@ -1,5 +1,5 @@
 -- From entry to entry: what is left to apply and to tell gives the whole.
-use Rattle.std.proofs.Common.{◌≡◌, ℕ, ◌+◌, ◌-◌, ◌<◌, ◌≤◌, min, List, [], ◌∷◌, ◌++◌, length, Some, sym, ap, ◌∙◌, arith}
+use Rattle.std.proofs.Common.{◌≡◌, ℕ, ◌+◌, ◌<◌, ◌≤◌, min, List, [], ◌∷◌, ◌++◌, length, Some, sym, ap, ◌∙◌, arith}
 use Rattle.std.proofs.lemmas.List.{length-append}
 use Rattle.servers.specs.Server.{Entry, Said, Limits, State, at_least, with_applied, do_one, tell_one, do_all, tell_all, dues, finished}
 use Rattle.wire.specs.Write.{write_saids}

@@ -1,5 +1,5 @@
 -- How many bytes telling takes: the longest reply, and one at most for each entry that is due.
-use Rattle.std.proofs.Common.{ℕ, suc, ◌+◌, ◌-◌, ◌*◌, ◌≤◌, List, [], ◌∷◌, ◌++◌, length, ap, arith}
+use Rattle.std.proofs.Common.{ℕ, suc, ◌+◌, ◌*◌, ◌≤◌, List, [], ◌∷◌, ◌++◌, length, ap, arith}
 use Rattle.std.proofs.lemmas.List.{length-append}
 use Rattle.servers.specs.Store.{pick, Perhaps, Reply, reply}
 use Rattle.servers.specs.Server.{Entry, Said, Cached, Limits, State, no_cached, is_new, do_one, tell_one, tell_all, dues}

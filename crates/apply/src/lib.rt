@@ -1,4 +1,6 @@
 // What is committed is applied to the store in order, and the clients of this server are told.
+#![tactic(auto)]
+
 ghost use Rattle.apply.specs.Rooms.{ToldFits};
 
 pub mod all;

@@ -1,4 +1,4 @@
-use Rattle.std.proofs.Common.{ℕ, ◌+◌, List, ◌++◌, length, get_or, arith}
+use Rattle.std.proofs.Common.{ℕ, List, ◌++◌, length, get_or, arith}
 use Rattle.wire.specs.Write.{write_number}
 use Rattle.wire_write.proofs.Putting.{writes_as, writes_then}
 use Rattle.wire_write.proofs.Texts.{length_number}
