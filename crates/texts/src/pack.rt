@@ -1,5 +1,5 @@
 // Bytes into words: each whole word at once, the last part by a padded copy, the words after it zero.
-ghost use Rattle.std.specs.Prelude.{◌≡◌, ℕ, ◌+◌, ◌-◌, ◌*◌, ◌<◌, ◌≤◌, List, [], ◌∷◌, length, replicate};
+ghost use Rattle.std.specs.Prelude.{◌≡◌, ℕ, ◌+◌, ◌-◌, ◌*◌, ◌<◌, ◌≤◌, List, [], ◌∷◌, length};
 ghost use Rattle.texts.specs.Means.{perhaps_of};
 ghost use Rattle.texts.specs.Words.{number_be, cells, text_words, perhaps_words, word, All};
 
@@ -38,16 +38,11 @@ fn pack_whole(row: &mut [u64], text: &[u8])
     }
 }
 
-// The bytes after the whole words, into words that are zero.
 fn pack_rest(row: &mut [u64], text: &[u8])
-    requires short { length text.now < 8 }
-    requires some { 0 < length row.old }
-    requires zero { row.old ≡ replicate (length row.old) 0 }
+    requires { (length text.now < 8) × (0 < length row.old) }
     ensures { row.new ≡ cells (length row.old) text.now }
 {
-    if text.len() == 0 {
-        return;
-    }
+    row[1..].fill(0);
     row[0] = part_word(text);
 }
 
@@ -60,7 +55,6 @@ pub fn pack(row: &mut [u64], text: &[u8])
         pack_whole(row, text);
         return;
     }
-    row.fill(0); // all of it: a length that is known costs less than what is left
     pack_whole(&mut row[0..whole], text);
     pack_rest(&mut row[whole..], &text[8 * whole..]);
 }
