@@ -26,7 +26,7 @@ use Rattle.store.specs.Region.{empty_region, region_do}
 use Rattle.memory.specs.Layout.{memory_of, limits_in, state_in, region_in}
 use Rattle.memory.specs.Fits.{Fits}
 
--- the store's region through the commands that are done: it follows do-all
+-- the store's region through the commands that are done: it follows do_all
 unfoldable pub region_all : State → List Entry → List ℕ → List ℕ
 region_all s [] r = r
 region_all s (e ∷ es) r = region_all (do_one s e) es (pick (is_new s e) (region_do e.command r) r)

@@ -29,7 +29,7 @@ pub record Linearizes (past : List Happening) (os : List Asked) : Type 0 where
   pub real_time : (c k d j : ℕ) → before past c k d j ≡ true → there os d j ≡ true → earlier os c k d j ≡ true
 
 -- The order that is read off the logs is a linearization, even if clients use one number for several commands: then
--- that of them counts which is committed first. (As-if-one follows, and doesn't need its One-command.)
+-- that of them counts which is committed first. (AsIfOne follows, and doesn't need its OneCommand.)
 abbrev pub OrderLinearizes : Type 0
 OrderLinearizes = Holds (λ w g. Linearizes w.past (linearization g w))
 

@@ -36,7 +36,7 @@ more_readable : (e : Event) (es : List Event) → readable e ≡ true → all_re
 unfolding all_readable
 more_readable e es p q = and_from (readable e) (all_readable es) p q
 
--- an answer has room where there is answer-size of it
+-- an answer has room where there is answer_size of it
 pub reached_room : (m : List ℕ) (e : Event) (n : ℕ) → Reached (limits_of m) m → readable e ≡ true → answer_size (limits_of m) ≤ n
     → RoomFor m e n
 reached_room m e n x p h =

@@ -1,4 +1,4 @@
--- A sorted store by places: look, with_item and without-item of the definitions at the place of a name.
+-- A sorted store by places: look, with_item and without_item of the definitions at the place of a name.
 use Rattle.std.proofs.Common.{◌≡◌, ℕ, zero, suc, ◌+◌, ◌<◌, ◌≤◌, Bool, true, false, ◌&&◌, ltb, List, [], ◌∷◌, ◌++◌, length, get_or, take, drop, set, refl, ap, ◌∙◌, arith}
 use Rattle.std.proofs.lemmas.Bool.Decides.{nat_tests}
 use Rattle.std.proofs.lemmas.Bool.{both_ways, lt-ltb}

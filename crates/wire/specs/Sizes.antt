@@ -20,7 +20,7 @@ abbrev pub EventFits : Type 0
 EventFits =
     (l : Limits) (s : State) (e : Event) → 1 ≤ l.room → (turned l s e ≡ 0) ⊎ (3 < turned l s e) → length (write_event e) ≤ event_size l
 
--- after any readable events whatever, an answer has room where there is answer-size of it
+-- after any readable events whatever, an answer has room where there is answer_size of it
 abbrev pub AnswerFits : Type 0
 AnswerFits =
     (can : ℕ → Bool) (l : Limits) (es : List Event) (e : Event) → GoodLimits can l → all_readable (e ∷ es) ≡ true →

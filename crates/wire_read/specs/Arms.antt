@@ -1,4 +1,4 @@
--- What stands after a tag, by the tag: the arms of read-command, read-message and read-front, each under a name of its own so
+-- What stands after a tag, by the tag: the arms of read_command, read_message and read_front, each under a name of its own so
 -- that a function of the code can be held to it. Assumes nothing: these are definitions.
 use Rattle.std.specs.Prelude.{ℕ, List, [], ◌∷◌}
 use Rattle.servers.specs.Store.{Perhaps, Command, get, put, remove, swap, drop_if}
