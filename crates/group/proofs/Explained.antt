@@ -1,10 +1,9 @@
 -- Every world that a group of these servers can live is explained.
-use Rattle.std.proofs.Common.{◌≡◌, refl}
 use Rattle.servers.specs.Promise.{AsIfOne}
 use Rattle.memory.specs.Program.{serves, server}
 use Rattle.memory.proofs.Program.{right}
 use Rattle.one_order.proofs.Promises.{right_is_linearizable, order_linearizes}
-use Rattle.group.specs.Explained.{Explained, AliveIsExplained}
+use Rattle.group.specs.Explained.{AliveIsExplained}
 
 pub alive_is_explained : AliveIsExplained
 unfolding AsIfOne

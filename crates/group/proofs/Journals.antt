@@ -1,36 +1,16 @@
 -- The journals tell of the world.
-use Rattle.std.proofs.Common.{◌≡◌, ℕ, zero, suc, ◌+◌, Bool, true, false, ◌&&◌, List, [], ◌∷◌, ◌++◌, length, take, drop, sym, refl, ap, ◌∙◌, subst, arith}
+use Rattle.std.proofs.Common.{◌≡◌, ℕ, suc, ◌+◌, true, ◌&&◌, List, [], ◌∷◌, ◌++◌, length, take, drop, sym, refl, ap, ◌∙◌, arith}
 use Rattle.std.proofs.lemmas.List.{append_assoc, append-nil, length-append, take-append-drop}
 use Rattle.std.proofs.lemmas.Bool.{and_parts, and_from}
 use Rattle.servers.specs.Server.{Answer}
 use Rattle.servers.specs.World.{World, new_world}
 use Rattle.servers.specs.Promise.{bytes, eight}
-use Rattle.wire.specs.Write.{write_text, write_answer}
-use Rattle.wire.specs.Read.{Read, got, and_then, read_text, read_answer, read_event}
+use Rattle.wire.specs.Write.{write_answer}
+use Rattle.wire.specs.Read.{Read, got, and_then, read_answer, read_event}
 use Rattle.wire.specs.Answers.{fine_answer}
 use Rattle.wire.proofs.Numbers.{text}
 use Rattle.wire.proofs.Letters.{answer_round_trip}
-use Rattle.group.specs.Journals.{
-  Came,
-  write_came,
-  read_came,
-  with_happening,
-  go_on,
-  replay,
-  world_in,
-  Kept,
-  fine_kept,
-  all_fine_kept,
-  events_of,
-  answers_of,
-  world_of,
-  Journals,
-  JournalsOpen,
-  JournalsTell,
-  Grows,
-  JournalsGrow,
-  GrownHappens,
-}
+use Rattle.group.specs.Journals.{Came, write_came, read_came, with_happening, go_on, replay, world_in, Kept, fine_kept, all_fine_kept, events_of, answers_of, world_of, Journals, JournalsOpen, JournalsTell, JournalsGrow, GrownHappens}
 
 pub journals_open : JournalsOpen
 unfolding replay events_of answers_of all_fine_kept

@@ -1,14 +1,11 @@
 -- The index of letters goes on, and what it points at can come.
-use Rattle.std.proofs.Common.{◌≡◌, ℕ, zero, suc, ◌+◌, ◌*◌, ◌<◌, ◌≤◌, Bool, true, ◌&&◌, ltb, List, [], ◌∷◌, ◌++◌, length, get_or, take, drop, sym, refl, ap, ◌∙◌, subst, inl, inr, arith}
+use Rattle.std.proofs.Common.{◌≡◌, ℕ, zero, suc, ◌+◌, ◌*◌, ◌<◌, ◌≤◌, ltb, List, [], ◌∷◌, length, get_or, take, drop, sym, refl, ap, ◌∙◌, subst, inl, inr, arith}
 use Rattle.std.proofs.lemmas.List.{take-take, drop-take, drop-drop, get_or-take, get_or-drop}
 use Rattle.std.proofs.lemmas.Bool.{and_parts, and_from}
-use Rattle.servers.specs.Server.{Event, Message, comes}
-use Rattle.servers.specs.World.{Sent, World, In}
+use Rattle.servers.specs.Server.{Event, comes}
+use Rattle.servers.specs.World.{Sent, In}
 use Rattle.servers.specs.Promise.{fine_message}
-use Rattle.wire.specs.Write.{write_message, write_event}
 use Rattle.wire.specs.Read.{read_event}
-use Rattle.wire.specs.Codec.{Writable, sized_message}
-use Rattle.wire.specs.Answers.{fine_letter}
 use Rattle.wire.proofs.Trips.{round_trip}
 use Rattle.group.specs.Parts.{CanHappen}
 use Rattle.group.specs.Letters.{Points, Indexed, coming, IndexStays, IndexGrows, LetterComes}

@@ -1,12 +1,11 @@
 -- A group that was opened plays.
-use Rattle.std.proofs.Common.{◌≡◌, ℕ, suc, ◌+◌, ◌-◌, ◌*◌, ◌<◌, ◌≤◌, ◌⊎◌, List, length, take, drop, Ok, Err, Result, sym, refl, ap, ◌∙◌, subst, inl, inr, arith}
+use Rattle.std.proofs.Common.{◌≡◌, ℕ, ◌+◌, ◌*◌, ◌<◌, ◌≤◌, ◌⊎◌, List, length, Ok, Result, sym, refl, ap, ◌∙◌, subst, inl, inr, arith}
 use borrow.Rule.Slice.PartMut.{put_mid}
 use Rattle.std.proofs.lemmas.Bool.{cases_eq}
 use Rattle.servers.specs.declared.limits.Limits as limit
 use Rattle.servers.specs.declared.limits.Unfit.{Unfit}
 use Rattle.servers.specs.World.{Group, limits}
 use Rattle.servers.specs.Opened as servers
-use Rattle.servers.specs.Promise.{GoodLimits}
 use Rattle.servers.proofs.Opening.{opened_is_good}
 use Rattle.wire.specs.Sizes.{answer_size}
 use Rattle.memory.specs.Program.{serves, opened}

@@ -1,14 +1,14 @@
 -- The parts of a memory follow the world, and what happens to the group is lived.
-use Rattle.std.proofs.Common.{◌≡◌, ℕ, ◌+◌, ◌*◌, ◌<◌, Bool, true, false, ◌&&◌, eqb, ◌≢◌, List, [], ◌∷◌, ◌++◌, length, take, drop, sym, refl, ap, ◌∙◌, subst, inl, inr, arith}
+use Rattle.std.proofs.Common.{◌≡◌, ℕ, ◌<◌, true, eqb, List, ◌∷◌, sym, refl, ap, ◌∙◌, subst}
 use Rattle.std.proofs.lemmas.Bool.{and_from, eqb-true, eqb-false}
 use Rattle.servers.specs.Store.{pick}
 use Rattle.servers.specs.Server.{Event, timeout, request, comes, restart, garbled}
-use Rattle.servers.specs.World.{Group, World, Happening, Sent, In, Lived, new, on_timeout, on_request, on_message, on_restart, on_garbled}
-use Rattle.servers.specs.World.{limits, seen, memory, happens, new_world}
+use Rattle.servers.specs.World.{Group, World, Lived, new, on_timeout, on_request, on_message, on_restart, on_garbled}
+use Rattle.servers.specs.World.{limits, seen, memory, happens}
 use Rattle.servers.specs.Promise.{readable, all_readable, readable_world}
 use Rattle.servers.proofs.Tests.{bool_by}
-use Rattle.memory.specs.Program.{serves, server, called, opened}
-use Rattle.group.specs.Parts.{part, Parts, Steps, PartsOpen, PartsStep, CanHappen, Alive, AliveNew, AliveOn}
+use Rattle.memory.specs.Program.{serves, server, called}
+use Rattle.group.specs.Parts.{part, Parts, PartsOpen, PartsStep, CanHappen, AliveNew, AliveOn}
 
 pub parts_open : PartsOpen
 unfolding Parts seen memory

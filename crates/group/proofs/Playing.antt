@@ -1,27 +1,26 @@
 -- One happening after the other: a group goes on playing.
-use Rattle.std.proofs.Common.{◌≡◌, ℕ, zero, suc, ◌+◌, ◌-◌, ◌*◌, ◌<◌, ◌≤◌, Bool, true, ◌&&◌, ltb, List, [], ◌∷◌, ◌++◌, length, get_or, take, drop, sym, refl, ap, ◌∙◌, subst, mul-le-mul_right, suc-mul, arith}
+use Rattle.std.proofs.Common.{◌≡◌, ℕ, suc, ◌+◌, ◌-◌, ◌*◌, ◌<◌, ◌≤◌, true, ltb, List, [], ◌∷◌, ◌++◌, length, get_or, take, drop, sym, refl, ap, ◌∙◌, subst, mul-le-mul_right, suc-mul, arith}
 use Rattle.std.proofs.lemmas.List.{append_assoc, drop_at, length-append, length-take, length-take-le, take_at}
-use Rattle.std.proofs.lemmas.Bool.{and_parts, and_from, lt-ltb}
-use Rattle.servers.specs.Server.{Limits, Event, Answer, refused, not_leader, does, state, answer}
+use Rattle.std.proofs.lemmas.Bool.{and_from, lt-ltb}
+use Rattle.servers.specs.Server.{Limits, Event, Answer, refused, not_leader, does, state}
 use Rattle.servers.specs.World.{Group, World, limits, seen, memory, happens}
 use Rattle.servers.specs.Promise.{all_below, bytes, eight, readable, all_readable, readable_world, GoodLimits, GoodGroup, Right}
-use Rattle.wire.specs.Write.{write_text, write_number, write_answer}
+use Rattle.wire.specs.Write.{write_number, write_answer}
 use Rattle.wire.specs.Read.{read_event}
 use Rattle.wire.specs.Codec.{Slice}
-use Rattle.wire.specs.Sizes.{answer_size}
 use Rattle.wire.specs.Answers.{fine_answer}
 use Rattle.wire.proofs.Numbers.{length_bytes_of}
 use Rattle.wire.proofs.Places.{read_is_readable}
 use Rattle.wire.proofs.Sizes.{answer_is_fine}
-use Rattle.wire_write.specs.Put.{Writes, put_at}
+use Rattle.wire_write.specs.Put.{Writes}
 use Rattle.wire_write.specs.Answers.{answer_of}
 use Rattle.wire_write.specs.declared.answer.Answer as code
-use Rattle.wire_write.proofs.Putting.{take_put_all, length_put}
+use Rattle.wire_write.proofs.Putting.{take_put_all}
 use Rattle.memory.specs.Program.{serves, server, says}
 use Rattle.memory.proofs.Program.{right}
 use Rattle.state.specs.Held.{limits_of, Holding}
 use Rattle.state.proofs.Holding.{always_held}
-use Rattle.group.specs.Journals.{Kept, Journals, Grows, write_came, world_in, events_of, answers_of, answer_length}
+use Rattle.group.specs.Journals.{Kept, Journals, Grows, write_came, world_in, events_of, answer_length}
 use Rattle.group.specs.Parts.{part, Parts, Steps, CanHappen, Alive}
 use Rattle.group.specs.Playing.{group_of, Playing, Turned, Played}
 use Rattle.server.specs.Reached.{Reached}

@@ -1,6 +1,6 @@
 -- What a group keeps of what happened: two journals of bytes, which only grow. In the one stands each event, with the server that
 -- it came to; in the other each answer. `world_in` reads them. Assumes nothing: these are definitions and statements.
-use Rattle.std.specs.Prelude.{◌≡◌, ℕ, zero, suc, ◌+◌, Bool, true, ◌&&◌, ltb, List, [], ◌∷◌, ◌++◌, length, take}
+use Rattle.std.specs.Prelude.{◌≡◌, ℕ, zero, suc, ◌+◌, Bool, true, ◌&&◌, List, [], ◌∷◌, ◌++◌, length, take}
 use Rattle.servers.specs.Server.{Event, Answer}
 use Rattle.servers.specs.World.{Group, World, new_world, letters, from, says_now, happens}
 use Rattle.servers.specs.Promise.{bytes, eight}

@@ -1,7 +1,6 @@
 -- The index of letters: four words for each letter that was sent, in the order of sending: who sent it, to whom, where its message's
 -- bytes stand in the journal of answers, and how many. Assumes nothing: these are definitions and statements.
 use Rattle.std.specs.Prelude.{◌≡◌, ℕ, ◌+◌, ◌*◌, ◌<◌, ◌≤◌, true, ◌&&◌, List, [], ◌∷◌, ◌++◌, length, take, drop, nat_lt, slice_index, slice_index_or}
-use Rattle.servers.specs.Server.{comes}
 use Rattle.servers.specs.World.{Sent, World}
 use Rattle.wire.specs.Write.{write_message}
 use Rattle.wire.specs.Read.{read_event}

@@ -1,7 +1,7 @@
 -- The servers of a group, each in its own part of one memory. Assumes nothing: these are definitions and statements.
-use Rattle.std.specs.Prelude.{◌≡◌, ℕ, ◌+◌, ◌*◌, ◌<◌, true, ◌≢◌, List, [], ◌∷◌, ◌++◌, length, take, drop}
+use Rattle.std.specs.Prelude.{◌≡◌, ℕ, ◌*◌, ◌<◌, true, ◌≢◌, List, take, drop}
 use Rattle.servers.specs.Server.{Event, timeout, request, comes, restart, garbled}
-use Rattle.servers.specs.World.{Group, World, Sent, In, Lived, limits, seen, memory, happens, new_world}
+use Rattle.servers.specs.World.{Group, World, In, Lived, limits, seen, memory, happens, new_world}
 use Rattle.servers.specs.Promise.{readable, readable_world}
 use Rattle.memory.specs.Program.{serves, server, called, opened}
 

@@ -1,6 +1,6 @@
 -- A group that plays: what its memories hold from one happening to the next. Assumes nothing: these are definitions.
-use Rattle.std.specs.Prelude.{◌≡◌, ℕ, suc, ◌+◌, ◌*◌, ◌<◌, ◌≤◌, Bool, true, false, ◌≢◌, List, [], ◌∷◌, ◌++◌, length, take, Ok, Err, Result}
-use Rattle.servers.specs.Server.{Event, timeout, request, comes, restart, garbled, Answer}
+use Rattle.std.specs.Prelude.{◌≡◌, ℕ, ◌+◌, ◌*◌, ◌<◌, ◌≤◌, Bool, true, false, ◌≢◌, List, ◌++◌, length, take, Ok, Err, Result}
+use Rattle.servers.specs.Server.{Event, timeout, request, comes, restart, garbled}
 use Rattle.servers.specs.World.{Group, World, limits, happens}
 use Rattle.servers.specs.Promise.{GoodGroup}
 use Rattle.wire.specs.Write.{write_answer}

@@ -1,4 +1,6 @@
 // A group of servers in one process: what it keeps, and what is promised of it.
+#![tactic(auto)]
+
 pub mod happen;
 pub mod journal;
 pub mod open;

@@ -1,5 +1,7 @@
 // serve: one server over a file of events. `serve SERVERS ME CLIENTS ROOM [FILE]` reads records of events from the file, or from
 // standard input, and writes the records of their answers to standard output.
+#![tactic(auto)]
+
 ghost use Rattle.state.specs.Held.{limits_of};
 ghost use Rattle.servers.specs.Opened.{limits_of as limits-for};
 ghost use Rattle.servers.specs.Promise.{GoodLimits};

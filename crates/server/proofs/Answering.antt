@@ -1,5 +1,5 @@
 -- From an event's first step and its finish to what the definitions answer; and the answers that do nothing.
-use Rattle.std.proofs.Common.{◌≡◌, ℕ, ◌+◌, ◌≤◌, Bool, true, false, not, ◌&&◌, eqb, List, [], ◌∷◌, ◌++◌, length, sym, refl, ap, ◌∙◌, subst, arith}
+use Rattle.std.proofs.Common.{◌≡◌, ℕ, Bool, false, not, ◌&&◌, eqb, List, [], length, sym, refl, ap, ◌∙◌, subst, arith}
 use Rattle.servers.specs.Store.{pick}
 use Rattle.servers.specs.Server as server
 use Rattle.servers.specs.Server.{
@@ -29,12 +29,12 @@ use Rattle.servers.specs.Server.{
 use Rattle.wire.specs.Write.{write_answer}
 use Rattle.wire_write.specs.Answers.{answer_of}
 use Rattle.wire_write.specs.declared.answer.Answer.{Answer}
-use Rattle.memory.specs.Layout.{region_in, room_in}
+use Rattle.memory.specs.Layout.{region_in}
 use Rattle.memory.specs.Program.{region_all, region_after, done_from}
 use Rattle.checks.specs.Outcome.{refusal_number, refusal_place}
 use Rattle.checks.specs.declared.refusal.Refusal.{Refusal}
 use Rattle.checks.specs.declared.refusal.Refusal.TheVariants.{NoEvent, OutOfRange, OutOfRow, LogFull, LastTerm}
-use Rattle.state.specs.Held.{limits_of, state_of, Held, Turns, Becomes}
+use Rattle.state.specs.Held.{limits_of, state_of, Held, Becomes}
 use Rattle.server.specs.Answered.{Begins, finish_answer, region_finished, Finished, Answered, Room, RoomFor}
 
 -- AN EVENT THAT IS TAKEN, is done to the end, and is no request at one that doesn't lead

@@ -1,5 +1,5 @@
 -- What the first step of each event leaves to be sent, and when the state refuses an event.
-use Rattle.std.proofs.Common.{◌≡◌, ℕ, Bool, true, false, not, ◌&&◌, ◌||◌, eqb, ltb, leb, List, [], length, sym, refl, ap, ◌∙◌, subst, arith}
+use Rattle.std.proofs.Common.{◌≡◌, ℕ, Bool, true, false, not, ◌&&◌, ◌||◌, eqb, leb, List, [], length, sym, refl, ap, ◌∙◌, subst, arith}
 use Rattle.servers.specs.Store.{pick, Command}
 use Rattle.servers.specs.Server as server
 use Rattle.wire.specs.Write.{write_answer}

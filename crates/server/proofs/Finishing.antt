@@ -1,28 +1,7 @@
 -- From the pieces that finish an event to the whole: settled, sent, applied; and what is told and sent is what the definitions say.
-use Rattle.std.proofs.Common.{◌≡◌, ℕ, ◌+◌, ◌≤◌, Bool, true, false, ◌&&◌, eqb, List, [], ◌∷◌, ◌++◌, length, sym, refl, ap, ◌∙◌, subst, arith}
-use mathlib.Core.Path.{fun_ext}
+use Rattle.std.proofs.Common.{◌≡◌, ℕ, ◌+◌, ◌≤◌, Bool, true, false, ◌&&◌, eqb, List, ◌++◌, length, refl, ap, ◌∙◌, arith}
 use Rattle.std.proofs.lemmas.List.{length-append}
-use Rattle.servers.specs.Store.{pick}
-use Rattle.servers.specs.Server.{
-  Said,
-  Letter,
-  Message,
-  Limits,
-  State,
-  does,
-  with_commit,
-  with_send,
-  settled_to,
-  settles,
-  sent_now,
-  sends_now,
-  dues,
-  tell_all,
-  finished,
-  after_all,
-  to_others,
-  to_server,
-}
+use Rattle.servers.specs.Server.{Said, Letter, Message, Limits, State, does, with_commit, with_send, settled_to, settles, sent_now, sends_now, dues, tell_all, finished, after_all, to_others}
 use Rattle.wire.specs.Write.{write_number, write_saids, write_letters, write_answer}
 use Rattle.wire_write.proofs.Texts.{length_number}
 use Rattle.servers.proofs.Tests.{pick_by}

@@ -1,5 +1,5 @@
 -- A server as it is opened: its memory is the limits, zeros, and an empty store.
-use Rattle.std.proofs.Common.{◌≡◌, ℕ, zero, suc, ◌+◌, ◌-◌, ◌*◌, ◌≤◌, Bool, true, false, eqb, leb, List, [], ◌∷◌, ◌++◌, map, length, take, drop, replicate, Ok, Err, Result, sym, refl, ap, ◌∙◌, arith}
+use Rattle.std.proofs.Common.{◌≡◌, ℕ, zero, suc, ◌+◌, ◌-◌, ◌*◌, ◌≤◌, Bool, leb, List, [], ◌∷◌, ◌++◌, map, drop, replicate, Ok, Err, Result, sym, refl, ap, ◌∙◌, arith}
 use borrow.Rule.Slice.PartMut.{put_mid}
 use Rattle.std.proofs.lemmas.List.{append_assoc, append-nil, replicate-append-replicate, take-replicate, drop-replicate}
 use Rattle.std.proofs.lemmas.Bool.{eq-eqb, le-leb}
@@ -15,7 +15,7 @@ use Rattle.raft_log.specs.Rows.{log_region, log_words}
 use Rattle.wire.specs.Sizes.{answer_size}
 use Rattle.memory.specs.Layout.{rest_of}
 use Rattle.memory.specs.Words.{option_word, cached_words, cache_words}
-use Rattle.memory.specs.Program.{serves, server, opened}
+use Rattle.memory.specs.Program.{serves, opened}
 use Rattle.state.proofs.VoteBits.{none_bits}
 use Rattle.server.specs.Heads.{head_words}
 use Rattle.server.specs.Reached.{Reached}

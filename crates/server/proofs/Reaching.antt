@@ -1,7 +1,6 @@
 -- What a memory that was reached is like, and that a step reaches the next.
-use Rattle.std.proofs.Common.{◌≡◌, ℕ, ◌≤◌, true, List, [], ◌∷◌, length, sym, refl, ap, ◌∙◌, subst, arith}
+use Rattle.std.proofs.Common.{◌≡◌, ℕ, ◌≤◌, true, List, ◌∷◌, length, sym, refl, ap, ◌∙◌, subst, arith}
 use Rattle.std.proofs.lemmas.Bool.{and_from}
-use Rattle.servers.specs.Server as server
 use Rattle.servers.specs.Server.{Event, Limits, State, state, answer}
 use Rattle.servers.specs.World.{memory}
 use Rattle.servers.specs.Promise.{all_readable, readable}

@@ -1,5 +1,5 @@
 -- What an event that was read and checked is ready for.
-use Rattle.std.proofs.Common.{◌≡◌, ℕ, true, List, Ok, Err, Result, sym, refl, ap, ◌∙◌, subst}
+use Rattle.std.proofs.Common.{◌≡◌, ℕ, true, List, Ok, Result, sym, subst}
 use Rattle.servers.specs.Server.{comes, turned}
 use Rattle.servers.specs.Server as server
 use Rattle.servers.specs.Promise.{readable}

@@ -1,5 +1,5 @@
 -- What was written at the front of the bytes is their beginning, and an answer that stands there means itself.
-use Rattle.std.proofs.Common.{◌≡◌, ℕ, ◌+◌, ◌≤◌, true, List, [], ◌∷◌, ◌++◌, length, take, drop, sym, refl, ap, ◌∙◌, subst, arith}
+use Rattle.std.proofs.Common.{◌≡◌, ℕ, ◌+◌, true, List, ◌++◌, length, take, drop, sym, refl, ap, ◌∙◌, subst, arith}
 use Rattle.std.proofs.lemmas.List.{take_at, take-append-drop}
 use Rattle.servers.specs.Server as server
 use Rattle.servers.specs.Server.{Said, Letter, does}
@@ -11,7 +11,7 @@ use Rattle.wire_write.specs.Put.{Writes}
 use Rattle.wire_write.specs.declared.answer.Answer.{Answer}
 use Rattle.wire_write.specs.declared.answer.Answer.TheVariants.{Does}
 use Rattle.wire_write.proofs.Answering.{written_means}
-use Rattle.wire_write.proofs.Putting.{writes_as, writes_then, writes_before, length_put}
+use Rattle.wire_write.proofs.Putting.{writes_then, writes_before, length_put}
 use Rattle.server.specs.Answered.{Begins}
 
 pub begins : {r : ℕ} {bs xs ys : List ℕ} → Writes 0 bs xs ys r → Begins bs xs ys

@@ -1,11 +1,10 @@
 -- What the front promises of one event: the memory and the answer's bytes, by the definitions. Assumes nothing: these are
 -- definitions.
-use Rattle.std.specs.Prelude.{◌≡◌, ℕ, ◌+◌, ◌*◌, ◌≤◌, List, [], ◌∷◌, ◌++◌, length, take}
+use Rattle.std.specs.Prelude.{◌≡◌, ℕ, ◌+◌, ◌*◌, ◌≤◌, List, ◌++◌, length, take}
 use Rattle.servers.specs.Server.{Event, Letter, Limits, State, Answer, does}
 use Rattle.servers.specs.Server.{settles, sent_now, sends_now, tell_all, dues, after_all, after, answer}
 use Rattle.wire.specs.Write.{write_answer}
 use Rattle.wire.specs.Read.{read_event}
-use Rattle.wire_write.specs.Put.{Writes}
 use Rattle.wire_write.specs.Answers.{answer_of, means_answer}
 use Rattle.wire_write.specs.declared.answer.Answer as code
 use Rattle.memory.specs.Layout.{region_in, room_in}

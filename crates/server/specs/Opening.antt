@@ -1,5 +1,5 @@
 -- What is lent to a server: how many words and bytes, and which of them is too short. Assumes nothing: these are definitions.
-use Rattle.std.specs.Prelude.{◌≡◌, ℕ, ◌+◌, ◌*◌, List, length, Ok, Err, Result, ◌==◌, nat_le}
+use Rattle.std.specs.Prelude.{◌≡◌, ℕ, ◌+◌, ◌*◌, List, Ok, Err, Result, ◌==◌, nat_le}
 use Rattle.servers.specs.Store.{pick}
 use Rattle.servers.specs.Server.{Limits}
 use Rattle.store.specs.Region.{region_size}

@@ -1,5 +1,7 @@
 // A server: opened in lent memory, and stepped from event to event, each by the definitions down to the bytes of its answer. That
 // its clients can't tell it and the others from one server is proved of this program in crate promises.
+#![tactic(auto)]
+
 mod bytes;
 mod finish;
 mod first;

@@ -1,7 +1,7 @@
 -- What a session promises: memory and answers' records, by the events of the records that were taken. Assumes nothing: these are
 -- definitions.
 use Rattle.std.specs.Prelude.{◌≡◌, ℕ, ◌+◌, ◌<◌, ◌≤◌, true, List, [], ◌∷◌, ◌++◌, length, take, drop}
-use Rattle.wire.specs.Read.{Read, got, stuck, read_event, read_text}
+use Rattle.wire.specs.Read.{got, read_event, read_text}
 use Rattle.wire_read.specs.Means.{is_got}
 use Rattle.wire.specs.Write.{write_answer, write_record}
 use Rattle.wire_write.specs.declared.answer.Answer.{Answer}

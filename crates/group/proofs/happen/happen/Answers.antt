@@ -1,4 +1,4 @@
-use Rattle.std.proofs.Common.{◌≡◌, ℕ, suc, ◌+◌, ◌-◌, ◌*◌, ◌≤◌, List, length, sym, refl, ap, ◌∙◌, subst, arith}
+use Rattle.std.proofs.Common.{◌≡◌, ℕ, ◌+◌, List, sym, refl, ap, ◌∙◌, subst, arith}
 use Rattle.servers.specs.Server.{Limits}
 use Rattle.servers.specs.World.{limits}
 use Rattle.wire.specs.Sizes.{answer_size}

@@ -1,4 +1,4 @@
-use Rattle.std.proofs.Common.{◌≡◌, ℕ, ◌+◌, List, ◌∷◌, length, ap, subst, arith}
+use Rattle.std.proofs.Common.{◌≡◌, ℕ, ◌+◌, List, ◌∷◌, length, subst, arith}
 use Rattle.wire.specs.Write.{write_number}
 use Rattle.wire_write.specs.Put.{Writes}
 use Rattle.wire_write.proofs.Putting.{writes_then}

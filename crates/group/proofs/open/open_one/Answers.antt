@@ -1,8 +1,7 @@
-use Rattle.std.proofs.Common.{◌≡◌, ℕ, ◌≤◌, length, Ok, Result, sym, ap, ◌∙◌, subst, arith}
+use Rattle.std.proofs.Common.{length, Result, sym, ◌∙◌, subst, arith}
 use Rattle.servers.specs.Server.{Limits}
 use Rattle.servers.specs.World.{limits}
-use Rattle.wire.specs.Sizes.{answer_size}
-use Rattle.server.specs.Opening.{Opens, memory_size}
+use Rattle.server.specs.Opening.{Opens}
 use Rattle.server.specs.declared.open.Short.{Short}
 use Rattle.server.proofs.Opened.{lent_enough}
 use Rattle.group.specs.Playing.{group_of}

@@ -1,4 +1,4 @@
-use Rattle.std.proofs.Common.{◌≡◌, ℕ, Result, sym, ap, ◌∙◌, subst}
+use Rattle.std.proofs.Common.{ℕ, Result, sym, ap, ◌∙◌, subst}
 use Rattle.servers.specs.declared.limits.Unfit.{Unfit}
 use Rattle.servers.proofs.Opening.{opened_is_good}
 use Rattle.memory.specs.Program.{serves}

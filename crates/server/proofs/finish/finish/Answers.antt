@@ -1,4 +1,4 @@
-use Rattle.std.proofs.Common.{◌≡◌, ℕ, List, length, sym, ap, ◌∙◌, subst, arith}
+use Rattle.std.proofs.Common.{ℕ, List, length, ap, ◌∙◌, arith}
 use Rattle.servers.specs.Server.{Limits, tell_all, dues}
 use Rattle.wire.specs.Write.{write_saids}
 use Rattle.wire_write.proofs.Putting.{length_put}

@@ -1,4 +1,4 @@
-use Rattle.std.proofs.Common.{length, sym, ap, arith}
+use Rattle.std.proofs.Common.{sym, arith}
 use Rattle.servers.specs.Server.{vote, appended}
 use Rattle.wire_write.proofs.Putting.{writes_none, writes_as}
 use Rattle.server.proofs.Sent.{letters_none, letters_one, length_vote, length_reply}

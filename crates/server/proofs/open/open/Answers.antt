@@ -1,9 +1,6 @@
-use Rattle.std.proofs.Common.{◌≡◌, ℕ, eqb, leb, List, length, sym, refl, ap, ◌∙◌, arith}
-use Rattle.std.proofs.lemmas.Bool.{eq-eqb, le-leb}
+use Rattle.std.proofs.Common.{ℕ, List, length, arith}
 use Rattle.servers.specs.Opened.{limits_of}
-use Rattle.wire.specs.Sizes.{answer_size}
 use Rattle.memory.specs.Program.{serves}
-use Rattle.server.specs.Opening.{memory_size}
 use Rattle.server.proofs.Opened.{lent_enough, reached_new}
 use Rattle.server.proofs.Reaching.{reached_limits, reached_self}
 use Rattle.server.proofs.open.open.Goals as goal

@@ -1,4 +1,4 @@
-use Rattle.std.proofs.Common.{ℕ, ◌+◌, ◌-◌, ◌*◌, List, length, replicate, ap, ◌∙◌, arith}
+use Rattle.std.proofs.Common.{ℕ, ◌+◌, ◌-◌, ◌*◌, List, length, ◌∙◌, arith}
 use Rattle.server.proofs.Opened.{new_words}
 use Rattle.server.proofs.open.write_new.Goals as goal
 

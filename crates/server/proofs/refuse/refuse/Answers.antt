@@ -1,9 +1,8 @@
-use Rattle.std.proofs.Common.{ℕ, List, sym, ap, ◌∙◌, subst}
+use Rattle.std.proofs.Common.{ℕ, ap, ◌∙◌}
 use Rattle.servers.specs.Server.{refused}
 use Rattle.wire.specs.Write.{write_answer}
-use Rattle.wire_write.specs.declared.answer.Answer.{Answer}
 use Rattle.wire_write.specs.declared.answer.Answer.TheVariants.{Refused}
-use Rattle.checks.specs.Outcome.{refusal_number, refusal_place}
+use Rattle.checks.specs.Outcome.{refusal_number}
 use Rattle.wire_write.proofs.Putting.{writes_as}
 use Rattle.server.proofs.Written.{begins}
 use Rattle.server.proofs.refuse.refuse.Goals as goal

@@ -1,7 +1,7 @@
-use Rattle.std.proofs.Common.{◌≡◌, ℕ, List, length, sym, ap, ◌∙◌}
+use Rattle.std.proofs.Common.{ℕ, List, length, sym, ap}
 use Rattle.wire_read.specs.Means.{means}
 use Rattle.wire_read.specs.declared.parts.Event.{Event}
-use Rattle.wire_read.specs.declared.parts.Event.TheVariants.{Timeout, Request, Comes}
+use Rattle.wire_read.specs.declared.parts.Event.TheVariants.{Request, Comes}
 use Rattle.checks.proofs.Handing.{turned_handed}
 use Rattle.state.specs.Held.{limits_of, state_of}
 use Rattle.server.proofs.Steps.{Ready, event_as, answered_as}

@@ -1,4 +1,4 @@
-use Rattle.std.proofs.Common.{◌≡◌, ℕ, List, length, sym, ap, ◌∙◌}
+use Rattle.std.proofs.Common.{ℕ, List, length, sym, ap}
 use Rattle.servers.specs.Server as server
 use Rattle.servers.specs.Server.{comes}
 use Rattle.wire_read.specs.Means.{message_of}

@@ -1,4 +1,4 @@
-use Rattle.std.proofs.Common.{◌≡◌, ℕ, List, [], length, refl}
+use Rattle.std.proofs.Common.{ℕ, List, [], length, refl}
 use Rattle.servers.specs.Server.{Event, comes, appended}
 use Rattle.state.specs.Held.{limits_of, state_of}
 use Rattle.server.proofs.Answering.{Taken, taken, room_taken}

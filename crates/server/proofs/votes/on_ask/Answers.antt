@@ -1,4 +1,4 @@
-use Rattle.std.proofs.Common.{◌≡◌, ℕ, List, length, sym, refl, ap, ◌∙◌}
+use Rattle.std.proofs.Common.{ℕ, List, length, sym, refl}
 use Rattle.servers.specs.Server.{Event, comes, ask_vote}
 use Rattle.state.specs.Held.{limits_of, state_of}
 use Rattle.server.specs.First.{first_of}

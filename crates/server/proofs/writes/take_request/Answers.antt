@@ -1,7 +1,7 @@
-use Rattle.std.proofs.Common.{◌≡◌, ℕ, Bool, true, not, List, [], length, sym, refl, ap, ◌∙◌}
-use Rattle.servers.specs.Server.{Event, request, first_step}
+use Rattle.std.proofs.Common.{ℕ, not, List, [], length, refl, ap}
+use Rattle.servers.specs.Server.{Event, request}
 use Rattle.wire_read.specs.Means.{command_of}
-use Rattle.state.specs.Held.{limits_of, state_of, Becomes}
+use Rattle.state.specs.Held.{limits_of, state_of}
 use Rattle.entries.proofs.Given.{request_given}
 use Rattle.server.proofs.Answering.{Taken, taken, room_taken}
 use Rattle.server.proofs.Events.{request_step}
