@@ -3,7 +3,7 @@
 #![tactic(auto)]
 
 ghost use Rattle.state.specs.Held.{limits_of};
-ghost use Rattle.servers.specs.Opened.{limits_of as limits-for};
+ghost use Rattle.servers.specs.Opened.{limits_of as limits_for};
 ghost use Rattle.servers.specs.Promise.{GoodLimits};
 ghost use Rattle.memory.specs.Program.{serves};
 ghost use Rattle.server.specs.Reached.{Reached};
@@ -59,7 +59,7 @@ fn open_and_serve<R: Read>(
     mem: &mut [u64],
     out: &mut [u8],
 ) -> anyhow::Result<()>
-    requires good { GoodLimits serves (limits-for serves l) }
+    requires good { GoodLimits serves (limits_for serves l) }
 {
     match open(mem, l, out.len()) {
         Ok(()) => serve(rt, input, mem, out),
@@ -69,7 +69,7 @@ fn open_and_serve<R: Read>(
 
 // The bytes for answers have room for the record of a longest answer, and for many short ones.
 fn start<R: Read>(rt: &HostRuntime, l: Limits, input: &mut R) -> anyhow::Result<()>
-    requires good { GoodLimits serves (limits-for serves l) }
+    requires good { GoodLimits serves (limits_for serves l) }
 {
     let mut mem = vec![in rt.alloc(); 0u64; memory_words(l)]?;
     let mut out = vec![in rt.alloc(); 0u8; answer_bytes(l).saturating_add(MANY)]?;

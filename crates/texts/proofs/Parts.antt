@@ -172,6 +172,15 @@ same_all a b i so h k =
     and_assoc so (eqb (get_or a i 0) (get_or b i 0)) (same_text (drop (i + 1) a) (drop (i + 1) b))
     ∙ ap (λ (z : Bool). so && z) (sym (same_step a b i h k))
 
+-- a word that tells the rows apart, and one that doesn't
+pub same_not : (a b : List ℕ) (i : ℕ) → i < length a → i < length b → (get_or a i 0 ≡ get_or b i 0 → ⊥) → same_text (drop i a)
+    (drop i b) ≡ false
+same_not a b i h k d = same_step a b i h k ∙ rw (ne_eqb (get_or a i 0) (get_or b i 0) d) refl
+
+pub same_next : (a b : List ℕ) (i : ℕ) → i < length a → i < length b → get_or a i 0 ≡ get_or b i 0
+    → same_text (drop i a) (drop i b) ≡ same_text (drop (i + 1) a) (drop (i + 1) b)
+same_next a b i h k d = same_step a b i h k ∙ rw (eq-eqb (get_or a i 0) (get_or b i 0) d) refl
+
 pub same_end : (a b : List ℕ) (i : ℕ) → length a ≤ i → length b ≤ i → same_text (drop i a) (drop i b) ≡ true
 unfolding same_text
 same_end a b i h k = rw (drop_all i a h, drop_all i b k) refl
