@@ -1,22 +1,21 @@
 -- What is to be applied and told, by the memory that holds it. Assumes nothing: these are definitions.
-use mathlib.Core.List.{List}
-use Prim.Native.Nat.{ℕ}
-use Rattle·servers.specs.Server.{Entry, Said, tell-one, tell-all, dues}
-use Rattle·log.specs.Places.{entry-in}
-use Rattle·memory.specs.Layout.{log-part, region-in}
-use Rattle·memory.specs.Program.{region-all}
-use Rattle·state.specs.Held.{limits-of, state-of}
+use Rattle.std.specs.Prelude.{ℕ, List}
+use Rattle.servers.specs.Server.{Entry, Said, tell_one, tell_all, dues}
+use Rattle.raft_log.specs.Places.{entry_in}
+use Rattle.memory.specs.Layout.{log_part, region_in}
+use Rattle.memory.specs.Program.{region_all}
+use Rattle.state.specs.Held.{limits_of, state_of}
 
 -- the entry at an index of the log, and what this server tells of it
-abbrev pub entry-of : List ℕ → ℕ → Entry
-entry-of m i = entry-in i (log-part m)
+abbrev pub entry_of : List ℕ → ℕ → Entry
+entry_of m i = entry_in i (log_part m)
 
-abbrev pub told-of : List ℕ → ℕ → List Said
-told-of m i = tell-one (limits-of m) (state-of m) (entry-of m i)
+abbrev pub told_of : List ℕ → ℕ → List Said
+told_of m i = tell_one (limits_of m) (state_of m) (entry_of m i)
 
 -- what this server tells of all that is due, and the store's region after it
-abbrev pub all-told : List ℕ → List Said
-all-told m = tell-all (limits-of m) (state-of m) (dues (state-of m))
+abbrev pub all_told : List ℕ → List Said
+all_told m = tell_all (limits_of m) (state_of m) (dues (state_of m))
 
-abbrev pub region-reached : List ℕ → List ℕ
-region-reached m = region-all (state-of m) (dues (state-of m)) (region-in m)
+abbrev pub region_reached : List ℕ → List ℕ
+region_reached m = region_all (state_of m) (dues (state_of m)) (region_in m)

@@ -1,14 +1,13 @@
 // All that is committed and not yet applied is applied in order, and the clients of this server are told.
-ghost use mathlib.Core.Path.{_≡_};
-ghost use Prim.Native.Nat.{_+_, _-_, _<_, _≤_, min};
-ghost use lib.ListN.{length};
-ghost use Rattle·servers.specs.Server.{at-least, with-applied, finished};
-ghost use Rattle·wire.specs.Write.{write-saids};
-ghost use Rattle·wire_write.specs.Put.{Writes};
-ghost use Rattle·memory.specs.Layout.{region-in};
-ghost use Rattle·state.specs.Held.{Held, Turns, Becomes, state-of};
-ghost use Rattle·apply·specs.Applied.{next-one, region-one};
-ghost use Rattle·apply·specs.InMemory.{entry-of, told-of, all-told, region-reached};
+ghost use Rattle.std.specs.Prelude.{◌≡◌, ◌+◌, ◌-◌, ◌<◌, ◌≤◌, min, length};
+ghost use Rattle.servers.specs.Server.{at_least, with_applied, finished};
+ghost use Rattle.wire.specs.Write.{write_saids};
+ghost use Rattle.wire_write.specs.Put.{Writes};
+ghost use Rattle.memory.specs.Layout.{region_in};
+ghost use Rattle.state.specs.Held.{Held, Turns, Becomes, state_of};
+ghost use Rattle.apply.specs.Applied.{next_one, region_one};
+ghost use Rattle.apply.specs.InMemory.{entry_of, told_of, all_told, region_reached};
+
 use crate::one::do_one;
 use crate::tell::tell;
 use state::head;
@@ -23,8 +22,8 @@ pub struct Told {
 
 // Up to which index entries are due: as far as the log is committed, or to its end.
 fn due_to(mem: &[u64]) -> usize
-    requires held { ⌜ Held (now mem) ⌝ }
-    ensures { λ r. ⌜ r ≡ min (state-of (now (mem .entry)) .commit) (length (state-of (now (mem .entry)) .log)) ⌝ }
+    requires held { Held mem.now }
+    ensures { result ≡ min (state_of mem.now).commit (length (state_of mem.now).log) }
 {
     let commit = head::commit(mem) as usize;
     let last = head::last_index(mem) as usize;
@@ -33,17 +32,17 @@ fn due_to(mem: &[u64]) -> usize
 
 // The next entry. The applied index is moved first, so that there is room for what its command adds.
 fn apply_next(mem: &mut [u64], index: usize, out: &mut [u8], told: Told) -> Told
-    requires held { ⌜ Held (now mem) ⌝ }
-    requires next { ⌜ index ≡ state-of (now mem) .applied + 1 ⌝ }
-    requires there { ⌜ index ≤ length (state-of (now mem) .log) ⌝ }
-    requires few { ⌜ told .count ≤ state-of (now mem) .applied ⌝ }
-    requires room { ⌜ told .next + length (write-saids (told-of (now mem) index)) ≤ length (now out) ⌝ }
-    ensures turns { λ _. ⌜ Turns (now (mem .entry)) (now (mem .exit))
-        (next-one index (state-of (now (mem .entry))) (entry-of (now (mem .entry)) index))
-        (region-one (state-of (now (mem .entry))) (entry-of (now (mem .entry)) index) (region-in (now (mem .entry)))) ⌝ }
-    ensures bytes { λ r. ⌜ Writes (told .next) (write-saids (told-of (now (mem .entry)) index))
-        (now (out .entry)) (now (out .exit)) (r .next) ⌝ }
-    ensures count { λ r. ⌜ r .count ≡ told .count + length (told-of (now (mem .entry)) index) ⌝ }
+    requires held { Held mem.old }
+    requires next { index ≡ (state_of mem.old).applied + 1 }
+    requires there { index ≤ length (state_of mem.old).log }
+    requires few { told.count ≤ (state_of mem.old).applied }
+    requires room { told.next + length (write_saids (told_of mem.old index)) ≤ length out.old }
+    ensures turns { Turns mem.old mem.new
+        (next_one index (state_of mem.old) (entry_of mem.old index))
+        (region_one (state_of mem.old) (entry_of mem.old index) (region_in mem.old)) }
+    ensures bytes { Writes told.next (write_saids (told_of mem.old index))
+        out.old out.new result.next }
+    ensures count { result.count ≡ told.count + length (told_of mem.old index) }
 {
     head::set_applied(mem, index as u64);
     match do_one(mem, index) {
@@ -57,10 +56,10 @@ fn apply_next(mem: &mut [u64], index: usize, out: &mut [u8], told: Told) -> Told
 
 // What is committed counts as applied, also past the end of the log.
 fn finish(mem: &mut [u64])
-    requires held { ⌜ Held (now mem) ⌝ }
-    ensures { λ _. ⌜ Becomes (now (mem .entry)) (now (mem .exit))
-        (with-applied (at-least (state-of (now (mem .entry)) .applied) (state-of (now (mem .entry)) .commit))
-        (state-of (now (mem .entry)))) ⌝ }
+    requires held { Held mem.old }
+    ensures { Becomes mem.old mem.new
+        (with_applied (at_least (state_of mem.old).applied (state_of mem.old).commit)
+        (state_of mem.old)) }
 {
     let done = larger(head::applied(mem), head::commit(mem));
     head::set_applied(mem, done);
@@ -68,12 +67,12 @@ fn finish(mem: &mut [u64])
 
 // The bytes of what clients are told go to `out` at a place; nothing else of it changes.
 pub fn apply_all(mem: &mut [u64], out: &mut [u8], at: usize) -> Told
-    requires held { ⌜ Held (now mem) ⌝ }
-    requires room { ⌜ at + length (write-saids (all-told (now mem))) ≤ length (now out) ⌝ }
-    ensures turns { λ _. ⌜ Turns (now (mem .entry)) (now (mem .exit))
-        (finished (state-of (now (mem .entry)))) (region-reached (now (mem .entry))) ⌝ }
-    ensures bytes { λ r. ⌜ Writes at (write-saids (all-told (now (mem .entry)))) (now (out .entry)) (now (out .exit)) (r .next) ⌝ }
-    ensures count { λ r. ⌜ r .count ≡ length (all-told (now (mem .entry))) ⌝ }
+    requires held { Held mem.old }
+    requires room { at + length (write_saids (all_told mem.old)) ≤ length out.old }
+    ensures turns { Turns mem.old mem.new
+        (finished (state_of mem.old)) (region_reached mem.old) }
+    ensures bytes { Writes at (write_saids (all_told mem.old)) out.old out.new result.next }
+    ensures count { result.count ≡ length (all_told mem.old) }
 {
     let to = due_to(mem);
     let mut index = head::applied(mem) as usize;

@@ -1,5 +1,5 @@
 // What is committed is applied to the store in order, and the clients of this server are told.
-ghost use Rattle·apply·specs.Rooms.{Told-fits};
+ghost use Rattle.apply.specs.Rooms.{ToldFits};
 
 pub mod all;
 pub mod one;
@@ -8,7 +8,7 @@ pub mod tell;
 
 // Where there are 546 bytes for each entry of a full log there is room for all that is told.
 pub fn told_fits() -> u8
-    ensures { λ _. ⌜ Told-fits ⌝ }
+    ensures { ToldFits }
 {
     0
 }

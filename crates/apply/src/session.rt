@@ -1,17 +1,12 @@
 // A client's session: whether any command of it was done, the last number done, and its reply, in 68 words.
-ghost use mathlib.Core.Path.{_≡_};
-ghost use mathlib.Core.Bool.{not, _&&_, _||_};
-ghost use mathlib.Core.List.{_∷_, _++_};
-ghost use Prim.Native.Nat.{_+_, _-_, _<_};
-ghost use lib.Dec.{ltb, eqb};
-ghost use lib.ListN.{length};
-ghost use Rattle·memory.specs.Layout.{clients-in};
-ghost use Rattle·store.specs.Calls.{Of-perhaps};
-ghost use Rattle·state.specs.Held.{Held, Becomes, state-of};
-ghost use Rattle·apply·specs.Applied.{session, answered, reply-in, with-session};
-ghost use Rattle·apply·specs.Means.{last-of};
-use state::parts::session_at;
-use state::parts::session_part;
+ghost use Rattle.std.specs.Prelude.{◌≡◌, ◌+◌, ◌-◌, ◌<◌, not, ◌&&◌, ◌||◌, ◌∷◌, ◌++◌, length, ◌==◌, nat_lt};
+ghost use Rattle.memory.specs.Layout.{clients_in};
+ghost use Rattle.store.specs.Calls.{OfPerhaps};
+ghost use Rattle.state.specs.Held.{Held, Becomes, state_of};
+ghost use Rattle.apply.specs.Applied.{session, answered, reply_in, with_session};
+ghost use Rattle.apply.specs.Means.{last_of};
+
+use state::parts::{session_at, session_part};
 use texts::copy::copy_text;
 
 const SESSION: usize = 68;
@@ -26,23 +21,23 @@ pub struct Last {
 impl Last {
     // Whether a command of this number is to be done: its number is above the last done.
     pub fn is_new(self, number: u64) -> bool
-        ensures { λ r. ⌜ r ≡ (not (self .done) || ltb (self .number) number) ⌝ }
+        ensures { result ≡ (not self.done || nat_lt self.number number) }
     {
         !self.done || self.number < number
     }
 
     // Whether it is just the last done, asked again.
     pub fn is_again(self, number: u64) -> bool
-        ensures { λ r. ⌜ r ≡ (self .done && eqb (self .number) number) ⌝ }
+        ensures { result ≡ (self.done && self.number == number) }
     {
         self.done && self.number == number
     }
 }
 
 pub fn last_done(mem: &[u64], client: usize) -> Last
-    requires held { ⌜ Held (now mem) ⌝ }
-    requires there { ⌜ client < clients-in (now mem) ⌝ }
-    ensures { λ r. ⌜ r ≡ last-of (session (state-of (now (mem .entry))) client) ⌝ }
+    requires held { Held mem.now }
+    requires there { client < clients_in mem.now }
+    ensures { result ≡ last_of (session (state_of mem.now) client) }
 {
     let kept = session_part(mem, client);
     Last {
@@ -52,10 +47,10 @@ pub fn last_done(mem: &[u64], client: usize) -> Last
 }
 
 fn pack_session(row: &mut [u64], number: u64, after: &[u64], before: &[u64])
-    requires size { ⌜ length (now row) ≡ 68 ⌝ }
-    requires after { ⌜ length (now after) ≡ 33 ⌝ }
-    requires before { ⌜ length (now before) ≡ 33 ⌝ }
-    ensures { λ _. ⌜ now (row .exit) ≡ 1 ∷ (number ∷ (now (after .entry) ++ now (before .entry))) ⌝ }
+    requires size { length row.old ≡ 68 }
+    requires after { length after.now ≡ 33 }
+    requires before { length before.now ≡ 33 }
+    ensures { row.new ≡ 1 ∷ (number ∷ (after.now ++ before.now)) }
 {
     row[0] = 1;
     row[1] = number;
@@ -65,12 +60,12 @@ fn pack_session(row: &mut [u64], number: u64, after: &[u64], before: &[u64])
 
 // Keeps the number of the command that was done, and its reply: what there is after it and was before.
 pub fn keep(mem: &mut [u64], client: usize, number: u64, after: &[u64], before: &[u64])
-    requires held { ⌜ Held (now mem) ⌝ }
-    requires there { ⌜ client < clients-in (now mem) ⌝ }
-    requires after { ⌜ Of-perhaps 32 (now after) ⌝ }
-    requires before { ⌜ Of-perhaps 32 (now before) ⌝ }
-    ensures { λ _. ⌜ Becomes (now (mem .entry)) (now (mem .exit))
-        (with-session client (answered number (reply-in (now (after .entry)) (now (before .entry)))) (state-of (now (mem .entry)))) ⌝ }
+    requires held { Held mem.old }
+    requires there { client < clients_in mem.old }
+    requires after { OfPerhaps 32 after.now }
+    requires before { OfPerhaps 32 before.now }
+    ensures { Becomes mem.old mem.new
+        (with_session client (answered number (reply_in after.now before.now)) (state_of mem.old)) }
 {
     let at = session_at(mem, client);
     pack_session(&mut mem[at..at + SESSION], number, after, before);

@@ -1,24 +1,23 @@
 // What a client is told, written straight from its session: the last number done, and its reply.
-ghost use mathlib.Core.Path.{_≡_};
-ghost use Prim.Native.Nat.{_+_, _-_, _<_, _≤_};
-ghost use lib.ListN.{length, getD};
-ghost use Rattle·wire.specs.Write.{write-said};
-ghost use Rattle·wire_write.specs.Put.{Writes};
-ghost use Rattle·memory.specs.Words.{cached-in};
-ghost use Rattle·memory.specs.Layout.{clients-in};
-ghost use Rattle·state.specs.Held.{Held, state-of};
-ghost use Rattle·apply·specs.Applied.{session, kept-for};
+ghost use Rattle.std.specs.Prelude.{◌≡◌, ◌+◌, ◌-◌, ◌<◌, ◌≤◌, length, slice_index};
+ghost use Rattle.wire.specs.Write.{write_said};
+ghost use Rattle.wire_write.specs.Put.{Writes};
+ghost use Rattle.memory.specs.Words.{cached_in};
+ghost use Rattle.memory.specs.Layout.{clients_in};
+ghost use Rattle.state.specs.Held.{Held, state_of};
+ghost use Rattle.apply.specs.Applied.{session, kept_for};
+
 use state::parts::session_part;
 use wire_write::put::write_number;
 use wire_write::words::write_perhaps_in;
 
 // What there is after the command goes first, then what was before.
 fn write_session(out: &mut [u8], at: usize, client: u64, kept: &[u64]) -> usize
-    requires size { ⌜ length (now kept) ≡ 68 ⌝ }
-    requires after { ⌜ getD (now kept) 2 0 ≤ 257 ⌝ }
-    requires before { ⌜ getD (now kept) 35 0 ≤ 257 ⌝ }
-    requires room { ⌜ at + length (write-said (kept-for client (cached-in (now kept)))) ≤ length (now out) ⌝ }
-    ensures { λ r. ⌜ Writes at (write-said (kept-for client (cached-in (now (kept .entry))))) (now (out .entry)) (now (out .exit)) r ⌝ }
+    requires size { length kept.now ≡ 68 }
+    requires after { slice_index kept.now 2 ≤ 257 }
+    requires before { slice_index kept.now 35 ≤ 257 }
+    requires room { at + length (write_said (kept_for client (cached_in kept.now))) ≤ length out.old }
+    ensures { Writes at (write_said (kept_for client (cached_in kept.now))) out.old out.new result }
 {
     let number = write_number(out, at, client);
     let after = write_number(out, number, kept[1]);
@@ -27,11 +26,11 @@ fn write_session(out: &mut [u8], at: usize, client: u64, kept: &[u64]) -> usize
 }
 
 pub fn tell(mem: &[u64], client: usize, out: &mut [u8], at: usize) -> usize
-    requires held { ⌜ Held (now mem) ⌝ }
-    requires there { ⌜ client < clients-in (now mem) ⌝ }
-    requires room { ⌜ at + length (write-said (kept-for client (session (state-of (now mem)) client))) ≤ length (now out) ⌝ }
-    ensures { λ r. ⌜ Writes at (write-said (kept-for client (session (state-of (now (mem .entry))) client)))
-        (now (out .entry)) (now (out .exit)) r ⌝ }
+    requires held { Held mem.now }
+    requires there { client < clients_in mem.now }
+    requires room { at + length (write_said (kept_for client (session (state_of mem.now) client))) ≤ length out.old }
+    ensures { Writes at (write_said (kept_for client (session (state_of mem.now) client)))
+        out.old out.new result }
 {
     write_session(out, at, client as u64, session_part(mem, client))
 }

@@ -1,9 +1,7 @@
 // What clients ask: each command puts a text of 64 bytes under a name of 16, which is scattered by a multiplication.
-ghost use mathlib.Core.Path.{_≡_};
-ghost use Prim.Native.Nat.{_<_};
-ghost use lib.ListN.{length};
-use wire_write::put::write_byte;
-use wire_write::put::write_number;
+ghost use Rattle.std.specs.Prelude.{◌≡◌, ◌<◌, length};
+
+use wire_write::put::{write_byte, write_number};
 
 // Commands are asked by so many clients in turn.
 pub const CLIENTS: u64 = 64;
@@ -32,9 +30,9 @@ pub fn blank() -> [u8; ASK] {
 
 // The command of number s.
 pub fn fill(event: &mut [u8], s: u64, names: u64)
-    requires size { ⌜ length (now event) ≡ 114 ⌝ }
-    requires some { ⌜ 0 < names ⌝ }
-    ensures { λ _. ⌜ length (now (event .exit)) ≡ 114 ⌝ }
+    requires size { length event.old ≡ 114 }
+    requires some { 0 < names }
+    ensures { length event.new ≡ 114 }
 {
     write_number(event, CLIENT, s % CLIENTS);
     write_number(event, NUMBER, s / CLIENTS + 1);

@@ -1,15 +1,11 @@
 // Answers, one after the other in bytes, each with the server that it is of before it; their letters are handed on as they stand
 // there, and come to other servers.
-ghost use mathlib.Core.Path.{_≡_};
-ghost use Prim.Native.Nat.{_+_, _<_, _≤_};
-ghost use lib.ListN.{length};
-ghost use Rattle·std.specs.Results.{Cases};
-ghost use Rattle·bench·specs.Standing.{Stand};
+ghost use Rattle.std.specs.Prelude.{◌≡◌, ◌+◌, ◌<◌, ◌≤◌, length, IfOk};
+ghost use Rattle.bench.specs.Standing.{Stand};
+
 use group::happen::Group;
 use group::turn::turn;
-use wire_read::read::read_byte;
-use wire_read::read::read_number;
-use wire_read::read::read_perhaps;
+use wire_read::read::{read_byte, read_number, read_perhaps};
 use wire_write::answer::Answer;
 
 // How many answers and bytes, and what was told in them; how many letters came for it, and the bytes of their messages.
@@ -31,7 +27,7 @@ pub struct Came {
 
 impl Mail {
     pub fn none() -> Mail
-        ensures { λ r. ⌜ r .end ≡ 0 ⌝ }
+        ensures { result.end ≡ 0 }
     {
         Mail {
             answers: 0,
@@ -44,7 +40,7 @@ impl Mail {
 
     // An answer more.
     pub fn with(self, came: Came) -> Mail
-        ensures { λ r. ⌜ r .end ≡ came .end ⌝ }
+        ensures { result.end ≡ came.end }
     {
         Mail {
             answers: self.answers.wrapping_add(1),
@@ -56,7 +52,7 @@ impl Mail {
 
     // An answer to a letter more, whose message has so many bytes.
     fn with_letter(self, came: Came, bytes: usize) -> Mail
-        ensures { λ r. ⌜ r .end ≡ came .end ⌝ }
+        ensures { result.end ≡ came.end }
     {
         let mail = self.with(came);
         Mail {
@@ -84,11 +80,11 @@ pub fn come(
     out: &mut [u8],
     end: usize,
 ) -> Result<Came, Trouble>
-    requires stand { ⌜ Stand g (now mems) ⌝ }
-    requires there { ⌜ server < g .servers ⌝ }
-    requires end { ⌜ end ≤ length (now out) ⌝ }
-    ensures stand { λ _. ⌜ Stand g (now (mems .exit)) ⌝ }
-    ensures end { λ r. ⌜ Cases r (λ m. m .end ≤ length (now (out .exit))) (λ _. Unit {0}) ⌝ }
+    requires stand { Stand g mems.old }
+    requires there { server < g.servers }
+    requires end { end ≤ length out.old }
+    ensures stand { Stand g mems.new }
+    ensures end { IfOk result (λ m. m.end ≤ length out.new) }
 {
     if out.len() - end <= g.longest {
         return Err(Trouble::Full);
@@ -117,8 +113,8 @@ struct Letter {
 const HEAD: usize = 9;
 
 fn letter_at(b: &[u8], at: usize) -> Result<Letter, usize>
-    requires { ⌜ at ≤ length (now b) ⌝ }
-    ensures { λ r. ⌜ Cases r (λ l. (at + 9 ≤ l .end) × (l .end ≤ length (now (b .entry)))) (λ _. Unit {0}) ⌝ }
+    requires { at ≤ length b.now }
+    ensures { IfOk result (λ l. (at + 9 ≤ l.end) × (l.end ≤ length b.now)) }
 {
     if b.len() - at < HEAD {
         return Err(at);
@@ -144,11 +140,11 @@ fn hand_on_letter(
     out: &mut [u8],
     mail: Mail,
 ) -> Result<(usize, Mail), Trouble>
-    requires stand { ⌜ Stand g (now mems) ⌝ }
-    requires at { ⌜ at ≤ length (now b) ⌝ }
-    requires end { ⌜ mail .end ≤ length (now out) ⌝ }
-    ensures stand { λ _. ⌜ Stand g (now (mems .exit)) ⌝ }
-    ensures end { λ r. ⌜ Cases r (λ m. (m .0 ≤ length (now (b .exit))) × (m .1 .end ≤ length (now (out .exit)))) (λ _. Unit {0}) ⌝ }
+    requires stand { Stand g mems.old }
+    requires at { at ≤ length b.old }
+    requires end { mail.end ≤ length out.old }
+    ensures stand { Stand g mems.new }
+    ensures end { IfOk result (λ m. (m.0 ≤ length b.new) × (m.1.end ≤ length out.new)) }
 {
     let Ok(letter) = letter_at(b, at) else {
         return Err(Trouble::Unread);
@@ -176,11 +172,11 @@ fn hand_on_letters(
     out: &mut [u8],
     mail: Mail,
 ) -> Result<(usize, Mail), Trouble>
-    requires stand { ⌜ Stand g (now mems) ⌝ }
-    requires at { ⌜ at ≤ length (now b) ⌝ }
-    requires end { ⌜ mail .end ≤ length (now out) ⌝ }
-    ensures stand { λ _. ⌜ Stand g (now (mems .exit)) ⌝ }
-    ensures end { λ r. ⌜ Cases r (λ m. (m .0 ≤ length (now (b .exit))) × (m .1 .end ≤ length (now (out .exit)))) (λ _. Unit {0}) ⌝ }
+    requires stand { Stand g mems.old }
+    requires at { at ≤ length b.old }
+    requires end { mail.end ≤ length out.old }
+    ensures stand { Stand g mems.new }
+    ensures end { IfOk result (λ m. (m.0 ≤ length b.new) × (m.1.end ≤ length out.new)) }
 {
     let mut next = at;
     let mut mail = mail;
@@ -194,8 +190,8 @@ fn hand_on_letters(
 
 // The place after what one client was told: its number, the command's, and what there is after it and was before.
 fn after_one(b: &[u8], at: usize) -> Result<usize, usize>
-    requires { ⌜ at ≤ length (now b) ⌝ }
-    ensures { λ r. ⌜ Cases r (λ n. n ≤ length (now (b .entry))) (λ _. Unit {0}) ⌝ }
+    requires { at ≤ length b.now }
+    ensures { IfOk result (λ n. n ≤ length b.now) }
 {
     let (_client, next) = read_number(b, at)?;
     let (_number, next) = read_number(b, next)?;
@@ -205,8 +201,8 @@ fn after_one(b: &[u8], at: usize) -> Result<usize, usize>
 }
 
 fn after_told(b: &[u8], at: usize, told: u64) -> Result<usize, usize>
-    requires { ⌜ at ≤ length (now b) ⌝ }
-    ensures { λ r. ⌜ Cases r (λ n. n ≤ length (now (b .entry))) (λ _. Unit {0}) ⌝ }
+    requires { at ≤ length b.now }
+    ensures { IfOk result (λ n. n ≤ length b.now) }
 {
     let mut next = at;
     for _i in 0..told {
@@ -224,8 +220,8 @@ struct Head {
 }
 
 fn head_at(b: &[u8], at: usize) -> Result<Head, usize>
-    requires { ⌜ at ≤ length (now b) ⌝ }
-    ensures { λ r. ⌜ Cases r (λ h. h .at ≤ length (now (b .entry))) (λ _. Unit {0}) ⌝ }
+    requires { at ≤ length b.now }
+    ensures { IfOk result (λ h. h.at ≤ length b.now) }
 {
     let (by, next) = read_byte(b, at)?;
     let (_does, next) = read_byte(b, next)?;
@@ -247,8 +243,8 @@ pub fn hand_on(
     answers: u64,
     out: &mut [u8],
 ) -> Result<Mail, Trouble>
-    requires stand { ⌜ Stand g (now mems) ⌝ }
-    ensures stand { λ _. ⌜ Stand g (now (mems .exit)) ⌝ }
+    requires stand { Stand g mems.old }
+    ensures stand { Stand g mems.new }
 {
     let mut at = 0;
     let mut mail = Mail::none();

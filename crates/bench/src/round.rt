@@ -1,15 +1,11 @@
 // An election, and rounds of commands: so many are asked, then all letters are handed on, in the order in which they were sent.
-ghost use mathlib.Core.Path.{_≡_};
-ghost use Prim.Native.Nat.{_<_, _≤_};
-ghost use lib.ListN.{length};
-ghost use Rattle·bench·specs.Standing.{Stand};
+ghost use Rattle.std.specs.Prelude.{◌≡◌, ◌<◌, ◌≤◌, length};
+ghost use Rattle.bench.specs.Standing.{Stand};
+
 use crate::ask::fill;
-use crate::mail::Mail;
-use crate::mail::Trouble;
-use crate::mail::come;
-use crate::mail::hand_on;
+use crate::mail::{Mail, Trouble, come, hand_on};
+use anyhow::anyhow;
 use group::happen::Group;
-use std::error::AnyError;
 use std::time::Instant;
 
 // What is asked, and whether to look at the clock.
@@ -32,24 +28,24 @@ pub struct Counts {
     pub replies: u64,
 }
 
-fn done(mail: Result<Mail, Trouble>) -> Result<Mail, AnyError> {
+fn done(mail: Result<Mail, Trouble>) -> anyhow::Result<Mail> {
     match mail {
         Ok(mail) => Ok(mail),
-        Err(Trouble::Refused) => Err("a server refused an event".into()),
-        Err(Trouble::Full) => Err("no room for answers: ask with fewer in flight".into()),
-        Err(Trouble::Unread) => Err("a letter can't be handed on".into()),
+        Err(Trouble::Refused) => Err(anyhow!("a server refused an event")),
+        Err(Trouble::Full) => Err(anyhow!("no room for answers: ask with fewer in flight")),
+        Err(Trouble::Unread) => Err(anyhow!("a letter can't be handed on")),
     }
 }
 
 // The first server's timer ends, all others vote for it, and it leads.
-pub fn elect(g: Group, mems: &mut [u64], a: &mut [u8], b: &mut [u8]) -> Result<(), AnyError>
-    requires stand { ⌜ Stand g (now mems) ⌝ }
-    requires servers { ⌜ 0 < g .servers ⌝ }
-    ensures stand { λ _. ⌜ Stand g (now (mems .exit)) ⌝ }
+pub fn elect(g: Group, mems: &mut [u64], a: &mut [u8], b: &mut [u8]) -> anyhow::Result<()>
+    requires stand { Stand g mems.old }
+    requires servers { 0 < g.servers }
+    ensures stand { Stand g mems.new }
 {
     let timeout = [0u8];
     let Ok(_) = come(g, mems, 0, &timeout, a, 0) else {
-        return Err("a server refused a timeout".into());
+        return Err(anyhow!("a server refused a timeout"));
     };
     let votes = done(hand_on(g, mems, a, 1, b))?;
     done(hand_on(g, mems, b, votes.answers, a))?;
@@ -66,12 +62,12 @@ fn ask(
     event: &mut [u8],
     out: &mut [u8],
 ) -> Result<Mail, Trouble>
-    requires stand { ⌜ Stand g (now mems) ⌝ }
-    requires servers { ⌜ 0 < g .servers ⌝ }
-    requires names { ⌜ 0 < names ⌝ }
-    requires event { ⌜ length (now event) ≡ 114 ⌝ }
-    ensures stand { λ _. ⌜ Stand g (now (mems .exit)) ⌝ }
-    ensures event { λ _. ⌜ length (now (event .exit)) ≡ 114 ⌝ }
+    requires stand { Stand g mems.old }
+    requires servers { 0 < g.servers }
+    requires names { 0 < names }
+    requires event { length event.old ≡ 114 }
+    ensures stand { Stand g mems.new }
+    ensures event { length event.new ≡ 114 }
 {
     let mut mail = Mail::none();
     for i in 0..count {
@@ -83,7 +79,7 @@ fn ask(
 }
 
 // Nanoseconds since the start.
-fn nanoseconds(rt: &LibcRuntime, start: Instant) -> Result<u64, AnyError> {
+fn nanoseconds(rt: &HostRuntime, start: Instant) -> anyhow::Result<u64> {
     let spent = start.elapsed(rt)?;
     Ok(
         spent
@@ -95,7 +91,7 @@ fn nanoseconds(rt: &LibcRuntime, start: Instant) -> Result<u64, AnyError> {
 
 // Commands are asked, and their letters handed on: entries to the other servers, and replies to the leader.
 pub fn round(
-    rt: &LibcRuntime,
+    rt: &HostRuntime,
     start: Instant,
     g: Group,
     plan: Plan,
@@ -105,13 +101,13 @@ pub fn round(
     a: &mut [u8],
     b: &mut [u8],
     before: Counts,
-) -> Result<Counts, AnyError>
-    requires stand { ⌜ Stand g (now mems) ⌝ }
-    requires servers { ⌜ 0 < g .servers ⌝ }
-    requires names { ⌜ 0 < plan .names ⌝ }
-    requires event { ⌜ length (now event) ≡ 114 ⌝ }
-    ensures stand { λ _. ⌜ Stand g (now (mems .exit)) ⌝ }
-    ensures event { λ _. ⌜ length (now (event .exit)) ≡ 114 ⌝ }
+) -> anyhow::Result<Counts>
+    requires stand { Stand g mems.old }
+    requires servers { 0 < g.servers }
+    requires names { 0 < plan.names }
+    requires event { length event.old ≡ 114 }
+    ensures stand { Stand g mems.new }
+    ensures event { length event.new ≡ 114 }
 {
     let count = plan.in_flight.min(plan.commands.saturating_sub(first));
     let t0 = if plan.timed {

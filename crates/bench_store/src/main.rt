@@ -2,11 +2,11 @@
 //   bench_store ITEMS OPERATIONS          does all kinds and prints what it counted
 //   bench_store ITEMS OPERATIONS times    prints the times too
 //   bench_store ITEMS OPERATIONS KIND     does one kind alone: none, look, put or renew (removed, and put again)
-ghost use Prim.Native.Nat.{_≤_};
+ghost use Rattle.std.specs.Prelude.{◌≤◌};
+
 use std::alloc::Global;
-use std::env;
-use std::io;
 use std::time::Instant;
+use std::{env, io};
 use store::start::open_region;
 
 mod work;
@@ -15,7 +15,7 @@ const MOST: usize = 65536;
 
 // The number that a word says, and at most `most`; 0 for another word.
 fn number(word: Option<String>, most: usize) -> usize
-    ensures { λ r. ⌜ r ≤ most ⌝ }
+    ensures { result ≤ most }
 {
     match word {
         Some(text) => match text.as_str().parse::<usize>() {
@@ -64,28 +64,28 @@ fn plan_of(word: Option<String>) -> Plan {
     }
 }
 
-fn tell(rt: &LibcRuntime, what: &str, done: u64, start: Instant, times: bool) -> io::Result<()> {
+fn tell(rt: &HostRuntime, what: &str, done: u64, start: Instant, times: bool) -> io::Result<()> {
     if times {
         let spent = start.elapsed(rt)?.as_micros();
-        println!(rt, "{what} {done} in {spent} us")
+        println!(rt; "{what} {done} in {spent} us")
     } else {
-        println!(rt, "{what} {done}")
+        println!(rt; "{what} {done}")
     }
 }
 
 fn run(
-    rt: &LibcRuntime,
+    rt: &HostRuntime,
     region: &mut [u64],
     items: usize,
     operations: u64,
     plan: Plan,
 ) -> io::Result<()> {
     if items == 0 || items > MOST {
-        return println!(rt, "nothing to do");
+        return println!(rt; "nothing to do");
     }
     let room = items + 1;
     if region.len() != 2 + 43 * room {
-        return println!(rt, "no region");
+        return println!(rt; "no region");
     }
     let n = items as u64;
     open_region(region, room);
@@ -107,10 +107,10 @@ fn run(
         let done = work::renew_all(region, n, operations);
         tell(rt, "renewed", done, start, plan.times)?;
     }
-    println!(rt, "words {}", region.len())
+    println!(rt; "words {}", region.len())
 }
 
-fn main(rt: LibcRuntime) -> io::Result<()> {
+fn main(rt: HostRuntime) -> io::Result<()> {
     let mut args = env::args(&rt)?;
     let _program = args.next();
     let items = number(args.next(), MOST);

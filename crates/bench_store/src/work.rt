@@ -1,8 +1,8 @@
 // What is timed: names of eight bytes, scattered by a multiplication, and texts of eight bytes.
-ghost use Prim.Native.Nat.{ℕ, _<_};
-ghost use Rattle·store.specs.Calls.{Held};
-use store::bytes;
-use store::row;
+ghost use Rattle.std.specs.Prelude.{ℕ, ◌<◌};
+ghost use Rattle.store.specs.Calls.{Held};
+
+use store::{bytes, row};
 
 fn name_of(i: u64) -> [u8; 8] {
     i.wrapping_mul(11400714819323198485).to_be_bytes()
@@ -10,20 +10,20 @@ fn name_of(i: u64) -> [u8; 8] {
 
 // The k-th operation's item.
 fn item_of(k: u64, items: u64) -> u64
-    requires { ⌜ 0 < items ⌝ }
+    requires { 0 < items }
 {
     k.wrapping_mul(7919) % items
 }
 
 fn look(region: &[u64], i: u64) -> bool
-    requires held { ⌜ Held (now region) ⌝ }
+    requires held { Held region.now }
 {
     bytes::look_up(region, &name_of(i)).is_some()
 }
 
 fn put(region: &mut [u64], i: u64, text: u64) -> bool
-    requires held { ⌜ Held (now region) ⌝ }
-    ensures held { λ _. ⌜ Held (now (region .exit)) ⌝ }
+    requires held { Held region.old }
+    ensures held { Held region.new }
 {
     if row::len(region) >= row::room(region) {
         return false;
@@ -41,8 +41,8 @@ fn put(region: &mut [u64], i: u64, text: u64) -> bool
 }
 
 fn renew(region: &mut [u64], i: u64, text: u64) -> bool
-    requires held { ⌜ Held (now region) ⌝ }
-    ensures held { λ _. ⌜ Held (now (region .exit)) ⌝ }
+    requires held { Held region.old }
+    ensures held { Held region.new }
 {
     let mut after = [0u64; 33];
     let mut before = [0u64; 33];
@@ -51,8 +51,8 @@ fn renew(region: &mut [u64], i: u64, text: u64) -> bool
 }
 
 pub fn fill(region: &mut [u64], items: u64) -> u64
-    requires held { ⌜ Held (now region) ⌝ }
-    ensures held { λ _. ⌜ Held (now (region .exit)) ⌝ }
+    requires held { Held region.old }
+    ensures held { Held region.new }
 {
     let mut done = 0;
     for i in 0..items {
@@ -64,8 +64,8 @@ pub fn fill(region: &mut [u64], items: u64) -> u64
 }
 
 pub fn look_all(region: &[u64], items: u64, operations: u64) -> u64
-    requires held { ⌜ Held (now region) ⌝ }
-    requires some { ⌜ 0 < items ⌝ }
+    requires held { Held region.now }
+    requires some { 0 < items }
 {
     let mut done = 0;
     for k in 0..operations {
@@ -77,9 +77,9 @@ pub fn look_all(region: &[u64], items: u64, operations: u64) -> u64
 }
 
 pub fn put_all(region: &mut [u64], items: u64, operations: u64) -> u64
-    requires held { ⌜ Held (now region) ⌝ }
-    requires some { ⌜ 0 < items ⌝ }
-    ensures held { λ _. ⌜ Held (now (region .exit)) ⌝ }
+    requires held { Held region.old }
+    requires some { 0 < items }
+    ensures held { Held region.new }
 {
     let mut done = 0;
     for k in 0..operations {
@@ -92,9 +92,9 @@ pub fn put_all(region: &mut [u64], items: u64, operations: u64) -> u64
 
 // Each is removed and put again, which shifts the index twice.
 pub fn renew_all(region: &mut [u64], items: u64, operations: u64) -> u64
-    requires held { ⌜ Held (now region) ⌝ }
-    requires some { ⌜ 0 < items ⌝ }
-    ensures held { λ _. ⌜ Held (now (region .exit)) ⌝ }
+    requires held { Held region.old }
+    requires some { 0 < items }
+    ensures held { Held region.new }
 {
     let mut done = 0;
     for k in 0..operations {

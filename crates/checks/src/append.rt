@@ -1,24 +1,21 @@
 // The checks of an append: one pass over its entries, forward in the order of their bytes.
-ghost use mathlib.Core.Path.{_≡_};
-ghost use Rattle·wire_read.specs.Means.{Entries-in};
-ghost use Rattle·checks·specs.Fields.{if-good};
-ghost use Rattle·checks·specs.Steps.{append-checked, entries-checked, good-front, passes};
+ghost use Rattle.std.specs.Prelude.{◌≡◌};
+ghost use Rattle.wire_read.specs.Means.{EntriesIn};
+ghost use Rattle.checks.specs.Fields.{if_good};
+ghost use Rattle.checks.specs.Steps.{append_checked, entries_checked, good_front, passes};
+
 use crate::entry::sound_entry;
-use crate::fields::has_room;
-use crate::fields::index_there;
-use crate::fields::stands;
-use crate::fields::term_there;
+use crate::fields::{has_room, index_there, stands, term_there};
 use crate::refusal::Refusal;
 use servers::limits::Limits;
 use wire_read::forward::next_entry;
-use wire_read::parts::Entries;
-use wire_read::parts::Message;
+use wire_read::parts::{Entries, Message};
 
 // None if a field of any entry is out of its range, and else whether they stand in a row: a break in the row is kept in mind,
 // since a field of a later entry comes before it.
 fn pass(l: Limits, b: &[u8], before: u64, entries: Entries) -> Option<bool>
-    requires { ⌜ Entries-in (now b) entries ⌝ }
-    ensures { λ r. ⌜ r ≡ passes l (now (b .entry)) before entries ⌝ }
+    requires { EntriesIn b.now entries }
+    ensures { result ≡ passes l b.now before entries }
 {
     let mut rest = entries;
     let mut row = true;
@@ -33,7 +30,7 @@ fn pass(l: Limits, b: &[u8], before: u64, entries: Entries) -> Option<bool>
 
 // The numbers before the entries: term, the index and term before, commit index.
 fn front(l: Limits, term: u64, before: u64, before_term: u64, commit: u64) -> Option<u64>
-    ensures { λ r. ⌜ r ≡ if-good (good-front l term before «before_term» commit) before ⌝ }
+    ensures { result ≡ if_good (good_front l term before before_term commit) before }
 {
     term_there(term)?;
     let before = index_there(l, before)?;
@@ -44,8 +41,8 @@ fn front(l: Limits, term: u64, before: u64, before_term: u64, commit: u64) -> Op
 
 // The entries, after the numbers were found good.
 fn check_entries(l: Limits, b: &[u8], before: u64, entries: Entries) -> Result<Entries, Refusal>
-    requires { ⌜ Entries-in (now b) entries ⌝ }
-    ensures { λ r. ⌜ r ≡ entries-checked l (now (b .entry)) before entries ⌝ }
+    requires { EntriesIn b.now entries }
+    ensures { result ≡ entries_checked l b.now before entries }
 {
     let Some(row) = pass(l, b, before, entries) else {
         return Err(Refusal::OutOfRange);
@@ -69,8 +66,8 @@ pub fn check_append(
     commit: u64,
     entries: Entries,
 ) -> Result<Message, Refusal>
-    requires { ⌜ Entries-in (now b) entries ⌝ }
-    ensures { λ r. ⌜ r ≡ append-checked l (now (b .entry)) term before «before_term» commit entries ⌝ }
+    requires { EntriesIn b.now entries }
+    ensures { result ≡ append_checked l b.now term before before_term commit entries }
 {
     let Some(before) = front(l, term, before, before_term, commit) else {
         return Err(Refusal::OutOfRange);

@@ -1,30 +1,22 @@
 // THE CHECKS of an event, in the order of the refusals: what no state is needed for.
-ghost use mathlib.Core.Path.{_≡_};
-ghost use mathlib.Core.Bool.{true, not, _&&_};
-ghost use mathlib.Core.List.{[]};
-ghost use lib.Dec.{ltb, leb, eqb};
-ghost use Rattle·servers.specs.Opened.{limits-of};
-ghost use Rattle·servers.specs.Server.{last-of-all};
-ghost use Rattle·wire_read.specs.Means.{Event-in, Message-in};
-ghost use Rattle·checks·specs.Fields.{brief, if-good};
-ghost use Rattle·checks·specs.Outcome.{Checked, decided, ordered};
-ghost use Rattle·checks·specs.Refusals.{can-do};
-ghost use Rattle·checks·specs.Steps.{message-checked};
+ghost use Rattle.std.specs.Prelude.{◌≡◌, true, not, ◌&&◌, [], ◌==◌, nat_le, nat_lt};
+ghost use Rattle.servers.specs.Opened.{limits_of};
+ghost use Rattle.servers.specs.Server.{last_of_all};
+ghost use Rattle.wire_read.specs.Means.{EventIn, MessageIn};
+ghost use Rattle.checks.specs.Fields.{brief, if_good};
+ghost use Rattle.checks.specs.Outcome.{Checked, decided, ordered};
+ghost use Rattle.checks.specs.Refusals.{can_do};
+ghost use Rattle.checks.specs.Steps.{message_checked};
+
 use crate::append::check_append;
 use crate::entry::brief_command;
-use crate::fields::another;
-use crate::fields::client_there;
-use crate::fields::index_there;
-use crate::fields::server_there;
-use crate::fields::term_there;
+use crate::fields::{another, client_there, index_there, server_there, term_there};
 use crate::refusal::Refusal;
 use servers::limits::Limits;
-use wire_read::parts::Command;
-use wire_read::parts::Event;
-use wire_read::parts::Message;
+use wire_read::parts::{Command, Event, Message};
 
 fn check_ask(l: Limits, term: u64, index: u64, last_term: u64) -> Result<Message, Refusal>
-    ensures { λ r. ⌜ r ≡ message-checked l [] (Message.AskVote term index «last_term») ⌝ }
+    ensures { result ≡ message_checked l [] (Message.AskVote term index last_term) }
 {
     let Some(term) = term_there(term) else {
         return Err(Refusal::OutOfRange);
@@ -39,7 +31,7 @@ fn check_ask(l: Limits, term: u64, index: u64, last_term: u64) -> Result<Message
 }
 
 fn check_vote(term: u64, granted: bool) -> Result<Message, Refusal>
-    ensures { λ r. ⌜ r ≡ ordered (leb term last-of-all) true (Message.Vote term granted) ⌝ }
+    ensures { result ≡ ordered (nat_le term last_of_all) true (Message.Vote term granted) }
 {
     let Some(term) = term_there(term) else {
         return Err(Refusal::OutOfRange);
@@ -48,7 +40,7 @@ fn check_vote(term: u64, granted: bool) -> Result<Message, Refusal>
 }
 
 fn check_appended(l: Limits, term: u64, index: u64, ok: bool) -> Result<Message, Refusal>
-    ensures { λ r. ⌜ r ≡ message-checked l [] (Message.Appended term index ok) ⌝ }
+    ensures { result ≡ message_checked l [] (Message.Appended term index ok) }
 {
     let Some(term) = term_there(term) else {
         return Err(Refusal::OutOfRange);
@@ -60,8 +52,8 @@ fn check_appended(l: Limits, term: u64, index: u64, ok: bool) -> Result<Message,
 }
 
 fn check_message(l: Limits, b: &[u8], message: Message) -> Result<Message, Refusal>
-    requires { ⌜ Message-in (now b) message ⌝ }
-    ensures { λ r. ⌜ r ≡ message-checked l (now (b .entry)) message ⌝ }
+    requires { MessageIn b.now message }
+    ensures { result ≡ message_checked l b.now message }
 {
     match message {
         Message::AskVote(term, index, last_term) => check_ask(l, term, index, last_term),
@@ -74,7 +66,7 @@ fn check_message(l: Limits, b: &[u8], message: Message) -> Result<Message, Refus
 }
 
 fn check_request(l: Limits, client: u64, id: u64, command: Command) -> Result<Event, Refusal>
-    ensures { λ r. ⌜ r ≡ ordered (ltb client (l .clients) && brief command) true (Event.Request client id command) ⌝ }
+    ensures { result ≡ ordered (nat_lt client l.clients && brief command) true (Event.Request client id command) }
 {
     let Some(client) = client_there(l, client) else {
         return Err(Refusal::OutOfRange);
@@ -86,15 +78,15 @@ fn check_request(l: Limits, client: u64, id: u64, command: Command) -> Result<Ev
 }
 
 fn check_sender(l: Limits, from: u8) -> Option<u8>
-    ensures { λ r. ⌜ r ≡ if-good (ltb from (l .servers) && not (eqb from (l .me))) from ⌝ }
+    ensures { result ≡ if_good (nat_lt from l.servers && not (from == l.me)) from }
 {
     let from = server_there(l, from)?;
     another(l, from)
 }
 
 fn check_comes(l: Limits, b: &[u8], from: u8, message: Message) -> Result<Event, Refusal>
-    requires { ⌜ Message-in (now b) message ⌝ }
-    ensures { λ r. ⌜ r ≡ decided (limits-of can-do l) (now (b .entry)) (Event.Comes from message) ⌝ }
+    requires { MessageIn b.now message }
+    ensures { result ≡ decided (limits_of can_do l) b.now (Event.Comes from message) }
 {
     let Some(from) = check_sender(l, from) else {
         return Err(Refusal::OutOfRange);
@@ -105,8 +97,8 @@ fn check_comes(l: Limits, b: &[u8], from: u8, message: Message) -> Result<Event,
 
 // The event, if nothing but the state could refuse it, or the first refusal.
 pub fn check(l: Limits, b: &[u8], event: Event) -> Result<Event, Refusal>
-    requires { ⌜ Event-in (now b) event ⌝ }
-    ensures { λ r. ⌜ Checked (limits-of can-do l) (now (b .entry)) event r ⌝ }
+    requires { EventIn b.now event }
+    ensures { Checked (limits_of can_do l) b.now event result }
 {
     match event {
         Event::Timeout => Ok(Event::Timeout),

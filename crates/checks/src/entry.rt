@@ -1,21 +1,14 @@
 // The checks of commands and entries, each by its fields.
-ghost use mathlib.Core.Path.{_≡_};
-ghost use mathlib.Core.Bool.{_&&_};
-ghost use lib.Dec.{leb};
-ghost use Rattle·checks·specs.Fields.{if-good, brief, brief-perhaps, sound};
-use crate::fields::brief_name;
-use crate::fields::brief_text;
-use crate::fields::client_there;
-use crate::fields::server_there;
-use crate::fields::term_there;
+ghost use Rattle.std.specs.Prelude.{◌≡◌, ◌&&◌, nat_le};
+ghost use Rattle.checks.specs.Fields.{if_good, brief, brief_perhaps, sound};
+
+use crate::fields::{brief_name, brief_text, client_there, server_there, term_there};
 use servers::limits::Limits;
-use wire_read::parts::Command;
-use wire_read::parts::Entry;
-use wire_read::parts::Text;
+use wire_read::parts::{Command, Entry, Text};
 
 // A text that may be none.
 fn brief_perhaps(text: Option<Text>) -> Option<Option<Text>>
-    ensures { λ r. ⌜ r ≡ if-good (brief-perhaps text) text ⌝ }
+    ensures { result ≡ if_good (brief_perhaps text) text }
 {
     let Some(given) = text else {
         return Some(None);
@@ -25,7 +18,7 @@ fn brief_perhaps(text: Option<Text>) -> Option<Option<Text>>
 }
 
 fn brief_pair(name: Text, text: Text) -> Option<(Text, Text)>
-    ensures { λ r. ⌜ r ≡ if-good (leb (name .len) 64 && leb (text .len) 256) (name, text) ⌝ }
+    ensures { result ≡ if_good (nat_le name.len 64 && nat_le text.len 256) (name, text) }
 {
     let name = brief_name(name)?;
     let text = brief_text(text)?;
@@ -33,7 +26,7 @@ fn brief_pair(name: Text, text: Text) -> Option<(Text, Text)>
 }
 
 fn brief_swap(name: Text, expected: Option<Text>, text: Text) -> Option<Command>
-    ensures { λ r. ⌜ r ≡ if-good (brief (Command.Swap name expected text)) (Command.Swap name expected text) ⌝ }
+    ensures { result ≡ if_good (brief (Command.Swap name expected text)) (Command.Swap name expected text) }
 {
     let name = brief_name(name)?;
     let expected = brief_perhaps(expected)?;
@@ -42,7 +35,7 @@ fn brief_swap(name: Text, expected: Option<Text>, text: Text) -> Option<Command>
 }
 
 pub fn brief_command(command: Command) -> Option<Command>
-    ensures { λ r. ⌜ r ≡ if-good (brief command) command ⌝ }
+    ensures { result ≡ if_good (brief command) command }
 {
     match command {
         Command::Get(name) => {
@@ -66,7 +59,7 @@ pub fn brief_command(command: Command) -> Option<Command>
 }
 
 pub fn sound_entry(l: Limits, entry: Entry) -> Option<Entry>
-    ensures { λ r. ⌜ r ≡ if-good (sound l entry) entry ⌝ }
+    ensures { result ≡ if_good (sound l entry) entry }
 {
     let client = client_there(l, entry.client)?;
     let at = server_there(l, entry.at)?;

@@ -1,6 +1,6 @@
 // The refusals of an event that need no state, in their order, over the event's bytes: what is handed on is in its ranges, in a
 // row and within the room.
-ghost use Rattle·checks·specs.Refusals.{Refusals-in-order};
+ghost use Rattle.checks.specs.Refusals.{RefusalsInOrder};
 
 pub mod append;
 pub mod check;
@@ -10,7 +10,7 @@ pub mod refusal;
 
 // What needs no state is refused first, and then what the state refuses.
 pub fn refusals_in_order() -> u8
-    ensures { λ _. ⌜ Refusals-in-order ⌝ }
+    ensures { RefusalsInOrder }
 {
     0
 }

@@ -1,6 +1,6 @@
 // Why an event is refused.
-ghost use mathlib.Core.Path.{_≡_};
-ghost use Rattle·checks·specs.Outcome.{refusal-number, refusal-place};
+ghost use Rattle.std.specs.Prelude.{◌≡◌};
+ghost use Rattle.checks.specs.Outcome.{refusal_number, refusal_place};
 
 #[derive(Clone, Copy, PartialEq, Eq, Debug)]
 pub enum Refusal {
@@ -14,7 +14,7 @@ pub enum Refusal {
 
 impl Refusal {
     pub fn number(self) -> u8
-        ensures { λ r. ⌜ r ≡ refusal-number self ⌝ }
+        ensures { result ≡ refusal_number self }
     {
         match self {
             Refusal::NoEvent(_) => 1,
@@ -26,7 +26,7 @@ impl Refusal {
     }
 
     pub fn place(self) -> u64
-        ensures { λ r. ⌜ r ≡ refusal-place self ⌝ }
+        ensures { result ≡ refusal_place self }
     {
         match self {
             Refusal::NoEvent(place) => place,

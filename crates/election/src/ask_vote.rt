@@ -1,16 +1,12 @@
 // A server is asked for its vote. It gives one vote a term, to who asks first, if it knows no leader of that term and the other's
 // log is as new as its own.
-ghost use mathlib.Core.Path.{_≡_};
-ghost use mathlib.Core.Bool.{Bool, true, false, _&&_, _||_};
-ghost use mathlib.Core.List.{List, [], _∷_};
-ghost use Prim.Native.Nat.{ℕ, _<_, _≤_};
-ghost use lib.Dec.{ltb, leb, eqb};
-ghost use lib.ListN.{length};
-ghost use Rattle·servers.specs.Server.{State, Letter, Message, ask-vote, last-of-all, as-new, empty, may-vote, asked, back};
-ghost use Rattle·memory.specs.Layout.{servers-in};
-ghost use Rattle·state.specs.Held.{Held, Becomes, limits-of, state-of};
-ghost use Rattle·election·specs.Steps.{newer, carried};
-use log::find::last_term;
+ghost use Rattle.std.specs.Prelude.{◌≡◌, Bool, true, false, ◌&&◌, ◌||◌, List, [], ◌∷◌, ℕ, ◌<◌, ◌≤◌, ltb, leb, eqb, length};
+ghost use Rattle.servers.specs.Server.{State, Letter, Message, ask_vote, last_of_all, as_new, empty, may_vote, asked, back};
+ghost use Rattle.memory.specs.Layout.{servers_in};
+ghost use Rattle.state.specs.Held.{Held, Becomes, limits_of, state_of};
+ghost use Rattle.election.specs.Steps.{newer, carried};
+
+use raft_log::find::last_term;
 use state::head;
 use state::parts::log_part;
 
@@ -24,14 +20,14 @@ pub struct Vote {
 // Whether a log that ends with the term `of` at the index `last` is as new as one of that length that ends with the term `own`: it
 // ends with a later term, or with the same and is at least as long.
 fn is_newer(own: u64, length: u64, of: u64, last: u64) -> bool
-    ensures { λ r. ⌜ r ≡ newer own length of last ⌝ }
+    ensures { result ≡ newer own length of last }
 {
     own < of || (of == own && length <= last)
 }
 
 pub fn is_as_new(mem: &[u64], last: u64, of: u64) -> bool
-    requires held { ⌜ Held (now mem) ⌝ }
-    ensures { λ r. ⌜ r ≡ as-new last of (state-of (now (mem .entry))) ⌝ }
+    requires held { Held mem.now }
+    ensures { result ≡ as_new last of (state_of mem.now) }
 {
     let length = head::last_index(mem);
     let own = last_term(log_part(mem), length as usize);
@@ -40,20 +36,20 @@ pub fn is_as_new(mem: &[u64], last: u64, of: u64) -> bool
 
 // Whether the vote of this term goes to h.
 fn grants(mem: &[u64], h: u64, last: u64, of: u64) -> bool
-    requires held { ⌜ Held (now mem) ⌝ }
-    requires here { ⌜ h < servers-in (now mem) ⌝ }
-    ensures { λ r. ⌜ r ≡ (as-new last of (state-of (now (mem .entry)))
-        && (empty (state-of (now (mem .entry)) .leader) && may-vote (state-of (now (mem .entry)) .voted) h)) ⌝ }
+    requires held { Held mem.now }
+    requires here { h < servers_in mem.now }
+    ensures { result ≡ (as_new last of (state_of mem.now)
+        && (empty (state_of mem.now).leader && may_vote (state_of mem.now).voted h)) }
 {
     is_as_new(mem, last, of) && head::may_vote(mem, h)
 }
 
 pub fn asked_for_vote(mem: &mut [u64], h: u64, term: u64, last: u64, of: u64) -> Vote
-    requires held { ⌜ Held (now mem) ⌝ }
-    requires here { ⌜ h < servers-in (now mem) ⌝ }
-    requires low { ⌜ term ≤ last-of-all ⌝ }
-    ensures state { λ _. ⌜ Becomes (now (mem .entry)) (now (mem .exit)) (asked (state-of (now (mem .entry))) h term last of) ⌝ }
-    ensures reply { λ r. ⌜ back (state-of (now (mem .entry))) h (ask-vote term last of) ≡ carried h r ∷ [] ⌝ }
+    requires held { Held mem.old }
+    requires here { h < servers_in mem.old }
+    requires low { term ≤ last_of_all }
+    ensures state { Becomes mem.old mem.new (asked (state_of mem.old) h term last of) }
+    ensures reply { back (state_of mem.old) h (ask_vote term last of) ≡ carried h result ∷ [] }
 {
     let own = head::term(mem);
     if term < own {

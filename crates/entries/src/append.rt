@@ -1,15 +1,13 @@
 // AppendEntries comes: the entries of a leader, after one that the log has.
-ghost use mathlib.Core.Path.{_≡_};
-ghost use mathlib.Core.List.{[], _∷_};
-ghost use Prim.Native.Nat.{_<_, _≤_};
-ghost use lib.Dec.{ltb};
-ghost use Rattle·servers.specs.Server.{append, last-index, last-of-all, has-new, advanced, following, appends, back};
-ghost use Rattle·wire_read.specs.Means.{entries-of, Entries-in};
-ghost use Rattle·memory.specs.Layout.{servers-in, room-in};
-ghost use Rattle·state.specs.Held.{Held, Becomes, state-of};
-ghost use Rattle·entries·specs.Steps.{Can-take, last-in, commits-to, extended, extended-if, has-before, accepts, carried};
+ghost use Rattle.std.specs.Prelude.{◌≡◌, ◌<◌, ◌≤◌, [], ◌∷◌, nat_lt};
+ghost use Rattle.servers.specs.Server.{append, last_index, last_of_all, has_new, advanced, following, appends, back};
+ghost use Rattle.wire_read.specs.Means.{entries_of, EntriesIn};
+ghost use Rattle.memory.specs.Layout.{servers_in, room_in};
+ghost use Rattle.state.specs.Held.{Held, Becomes, state_of};
+ghost use Rattle.entries.specs.Steps.{CanTake, last_in, commits_to, extended, extended_if, has_before, accepts, carried};
+
 use crate::rows::replace_entries;
-use log::find;
+use raft_log::find;
 use state::head;
 use state::parts::log_part;
 use wire_read::forward::first_place;
@@ -32,8 +30,8 @@ pub struct Last {
 
 // The last entry comes first.
 fn last_of(b: &[u8], entries: Entries) -> Last
-    requires { ⌜ Entries-in (now b) entries ⌝ }
-    ensures { λ r. ⌜ r ≡ last-in (entries-of (now (b .entry)) entries) ⌝ }
+    requires { EntriesIn b.now entries }
+    ensures { result ≡ last_in (entries_of b.now entries) }
 {
     if entries.count == 0 {
         return Last { index: 0, term: 0 };
@@ -44,7 +42,7 @@ fn last_of(b: &[u8], entries: Entries) -> Last
 
 // How far the log is committed: up to what the leader says or the log's end, and never less than it was.
 fn commits_to(own: u64, commit: u64, end: u64) -> u64
-    ensures { λ r. ⌜ r ≡ commits-to own commit end ⌝ }
+    ensures { result ≡ commits_to own commit end }
 {
     let bound = if commit < end { commit } else { end };
     if own < bound { bound } else { own }
@@ -52,23 +50,23 @@ fn commits_to(own: u64, commit: u64, end: u64) -> u64
 
 // Whether what stands before the entries is there; index 0 always is.
 fn has_before(mem: &[u64], before: u64, before_term: u64) -> bool
-    requires held { ⌜ Held (now mem) ⌝ }
-    ensures { λ r. ⌜ r ≡ has-before (state-of (now (mem .entry))) before «before_term» ⌝ }
+    requires held { Held mem.now }
+    ensures { result ≡ has_before (state_of mem.now) before before_term }
 {
     let len = head::last_index(mem);
     before == 0 || find::has_term(log_part(mem), len as usize, before, before_term)
 }
 
 fn is_older(term: u64, own: u64) -> bool
-    ensures { λ r. ⌜ r ≡ ltb term own ⌝ }
+    ensures { result ≡ nat_lt term own }
 {
     term < own
 }
 
 // Nothing of an older term is taken, nor what comes after an entry that isn't there.
 fn accepts(mem: &[u64], term: u64, before: u64, before_term: u64) -> bool
-    requires held { ⌜ Held (now mem) ⌝ }
-    ensures { λ r. ⌜ r ≡ accepts (state-of (now (mem .entry))) term before «before_term» ⌝ }
+    requires held { Held mem.now }
+    ensures { result ≡ accepts (state_of mem.now) term before before_term }
 {
     let own = head::term(mem);
     !is_older(term, own) && has_before(mem, before, before_term)
@@ -76,10 +74,10 @@ fn accepts(mem: &[u64], term: u64, before: u64, before_term: u64) -> bool
 
 // Whether the entries, of which this is the last, bring anything new.
 fn has_new(mem: &[u64], b: &[u8], entries: Entries, last: Last) -> bool
-    requires held { ⌜ Held (now mem) ⌝ }
-    requires there { ⌜ Entries-in (now b) entries ⌝ }
-    requires last { ⌜ last ≡ last-in (entries-of (now b) entries) ⌝ }
-    ensures { λ r. ⌜ r ≡ has-new (state-of (now (mem .entry))) (entries-of (now (b .entry)) entries) ⌝ }
+    requires held { Held mem.now }
+    requires there { EntriesIn b.now entries }
+    requires last { last ≡ last_in (entries_of b.now entries) }
+    ensures { result ≡ has_new (state_of mem.now) (entries_of b.now entries) }
 {
     let len = head::last_index(mem);
     find::has_new(
@@ -93,12 +91,12 @@ fn has_new(mem: &[u64], b: &[u8], entries: Entries, last: Last) -> bool
 
 // The entries are written to their places, and the commit index goes up.
 fn extend(mem: &mut [u64], before: u64, commit: u64, b: &[u8], entries: Entries)
-    requires held { ⌜ Held (now mem) ⌝ }
-    requires low { ⌜ commit ≤ room-in (now mem) ⌝ }
-    requires within { ⌜ before ≤ last-index (state-of (now mem) .log) ⌝ }
-    requires can { ⌜ Can-take (now mem) (now b) before entries ⌝ }
-    ensures { λ _. ⌜ Becomes (now (mem .entry)) (now (mem .exit))
-        (extended (state-of (now (mem .entry))) before (entries-of (now (b .entry)) entries) commit) ⌝ }
+    requires held { Held mem.old }
+    requires low { commit ≤ room_in mem.old }
+    requires within { before ≤ last_index (state_of mem.old).log }
+    requires can { CanTake mem.old b.now before entries }
+    ensures { Becomes mem.old mem.new
+        (extended (state_of mem.old) before (entries_of b.now entries) commit) }
 {
     replace_entries(mem, before, b, entries);
     let own = head::commit(mem);
@@ -108,14 +106,14 @@ fn extend(mem: &mut [u64], before: u64, commit: u64, b: &[u8], entries: Entries)
 
 // Only what brings something new is written.
 fn extend_by_new(mem: &mut [u64], before: u64, commit: u64, b: &[u8], entries: Entries, last: Last)
-    requires held { ⌜ Held (now mem) ⌝ }
-    requires low { ⌜ commit ≤ room-in (now mem) ⌝ }
-    requires within { ⌜ before ≤ last-index (state-of (now mem) .log) ⌝ }
-    requires can { ⌜ Can-take (now mem) (now b) before entries ⌝ }
-    requires last { ⌜ last ≡ last-in (entries-of (now b) entries) ⌝ }
-    ensures { λ _. ⌜ Becomes (now (mem .entry)) (now (mem .exit))
-        (extended-if (has-new (state-of (now (mem .entry))) (entries-of (now (b .entry)) entries))
-        (state-of (now (mem .entry))) before (entries-of (now (b .entry)) entries) commit) ⌝ }
+    requires held { Held mem.old }
+    requires low { commit ≤ room_in mem.old }
+    requires within { before ≤ last_index (state_of mem.old).log }
+    requires can { CanTake mem.old b.now before entries }
+    requires last { last ≡ last_in (entries_of b.now entries) }
+    ensures { Becomes mem.old mem.new
+        (extended_if (has_new (state_of mem.old) (entries_of b.now entries))
+        (state_of mem.old) before (entries_of b.now entries) commit) }
 {
     let new = has_new(mem, b, entries, last);
     if new {
@@ -125,10 +123,10 @@ fn extend_by_new(mem: &mut [u64], before: u64, commit: u64, b: &[u8], entries: E
 
 // A newer term is taken, and the sender is followed, whether its entries bring anything or not.
 fn follow_leader(mem: &mut [u64], from: u64, term: u64)
-    requires held { ⌜ Held (now mem) ⌝ }
-    requires here { ⌜ from < servers-in (now mem) ⌝ }
-    requires low { ⌜ term ≤ last-of-all ⌝ }
-    ensures { λ _. ⌜ Becomes (now (mem .entry)) (now (mem .exit)) (following from (advanced term (state-of (now (mem .entry))))) ⌝ }
+    requires held { Held mem.old }
+    requires here { from < servers_in mem.old }
+    requires low { term ≤ last_of_all }
+    ensures { Becomes mem.old mem.new (following from (advanced term (state_of mem.old))) }
 {
     head::advance(mem, term);
     head::follow(mem, from);
@@ -145,15 +143,15 @@ pub fn append(
     commit: u64,
     entries: Entries,
 ) -> Reply
-    requires held { ⌜ Held (now mem) ⌝ }
-    requires here { ⌜ from < servers-in (now mem) ⌝ }
-    requires low { ⌜ term ≤ last-of-all ⌝ }
-    requires commit { ⌜ commit ≤ room-in (now mem) ⌝ }
-    requires can { ⌜ Can-take (now mem) (now b) before entries ⌝ }
-    ensures state { λ _. ⌜ Becomes (now (mem .entry)) (now (mem .exit))
-        (appends (state-of (now (mem .entry))) from term before «before_term» (entries-of (now (b .entry)) entries) commit) ⌝ }
-    ensures reply { λ r. ⌜ back (state-of (now (mem .entry))) from
-        (append term before «before_term» (entries-of (now (b .entry)) entries) commit) ≡ carried from r ∷ [] ⌝ }
+    requires held { Held mem.old }
+    requires here { from < servers_in mem.old }
+    requires low { term ≤ last_of_all }
+    requires commit { commit ≤ room_in mem.old }
+    requires can { CanTake mem.old b.now before entries }
+    ensures state { Becomes mem.old mem.new
+        (appends (state_of mem.old) from term before before_term (entries_of b.now entries) commit) }
+    ensures reply { back (state_of mem.old) from
+        (append term before before_term (entries_of b.now entries) commit) ≡ carried from result ∷ [] }
 {
     let last = last_of(b, entries);
     let own = head::term(mem);

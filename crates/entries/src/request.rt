@@ -1,27 +1,26 @@
 // A client's request at a leader: one entry more in its own log, which it has reason to send.
-ghost use Prim.Native.Nat.{_<_};
-ghost use lib.ListN.{length};
-ghost use Rattle·servers.specs.Server.{with-request};
-ghost use Rattle·texts.specs.Commands.{Good-command};
-ghost use Rattle·wire_read.specs.Means.{command-of, Command-in};
-ghost use Rattle·memory.specs.Layout.{clients-in, room-in};
-ghost use Rattle·state.specs.Held.{Held, Becomes, limits-of, state-of};
+ghost use Rattle.std.specs.Prelude.{◌<◌, length};
+ghost use Rattle.servers.specs.Server.{with_request};
+ghost use Rattle.texts.specs.Commands.{GoodCommand};
+ghost use Rattle.wire_read.specs.Means.{command_of, CommandIn};
+ghost use Rattle.memory.specs.Layout.{clients_in, room_in};
+ghost use Rattle.state.specs.Held.{Held, Becomes, limits_of, state_of};
+
 use crate::rows::push_entry;
-use log::row::Numbers;
-use state::head;
+use raft_log::row::Numbers;
 use state::limits::limits;
-use state::peers;
+use state::{head, peers};
 use wire_read::parts::Command;
 
 // Its own match index is the new entry's.
 pub fn request(mem: &mut [u64], b: &[u8], client: u64, id: u64, command: Command)
-    requires held { ⌜ Held (now mem) ⌝ }
-    requires room { ⌜ length (state-of (now mem) .log) < room-in (now mem) ⌝ }
-    requires client { ⌜ client < clients-in (now mem) ⌝ }
-    requires within { ⌜ Command-in (now b) command ⌝ }
-    requires good { ⌜ Good-command (command-of (now b) command) ⌝ }
-    ensures { λ _. ⌜ Becomes (now (mem .entry)) (now (mem .exit))
-        (with-request (limits-of (now (mem .entry))) client id (command-of (now (b .entry)) command) (state-of (now (mem .entry)))) ⌝ }
+    requires held { Held mem.old }
+    requires room { length (state_of mem.old).log < room_in mem.old }
+    requires client { client < clients_in mem.old }
+    requires within { CommandIn b.now command }
+    requires good { GoodCommand (command_of b.now command) }
+    ensures { Becomes mem.old mem.new
+        (with_request (limits_of mem.old) client id (command_of b.now command) (state_of mem.old)) }
 {
     let me = limits(mem).me;
     let last = head::last_index(mem);

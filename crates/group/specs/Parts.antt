@@ -1,14 +1,9 @@
 -- The servers of a group, each in its own part of one memory. Assumes nothing: these are definitions and statements.
-use mathlib.Core.Path.{_≡_}
-use mathlib.Core.Bool.{true}
-use mathlib.Core.List.{List}
-use mathlib.Core.Logic.{_≢_}
-use Prim.Native.Nat.{ℕ, _*_, _<_}
-use lib.ListN.{take, drop}
-use Rattle·servers.specs.Server.{Event, timeout, request, comes, restart, garbled}
-use Rattle·servers.specs.World.{Group, World, In, Lived, limits, seen, memory, happens, new-world}
-use Rattle·servers.specs.Promise.{readable, readable-world}
-use Rattle·memory.specs.Program.{serves, server, called, opened}
+use Rattle.std.specs.Prelude.{◌≡◌, ℕ, ◌*◌, ◌<◌, true, ◌≢◌, List, take, drop}
+use Rattle.servers.specs.Server.{Event, timeout, request, comes, restart, garbled}
+use Rattle.servers.specs.World.{Group, World, In, Lived, limits, seen, memory, happens, new_world}
+use Rattle.servers.specs.Promise.{readable, readable_world}
+use Rattle.memory.specs.Program.{serves, server, called, opened}
 
 -- the part of server i, where each has so many words
 abbrev pub part : ℕ → ℕ → List ℕ → List ℕ
@@ -16,41 +11,41 @@ part size i mems = take size (drop (i * size) mems)
 
 -- each part is the program's memory after what that server saw
 unfoldable pub Parts : Group → ℕ → List ℕ → World → Type 0
-Parts g size mems w = (i : ℕ) → i < g .servers → part size i mems ≡ memory server (limits g i) (seen i (w .past))
+Parts g size mems w = (i : ℕ) → i < g.servers → part size i mems ≡ memory server (limits g i) (seen i w.past)
 
 -- from memory to memory, an event at one server, the others as they were
-pub record Steps (g : Group) (size i : ℕ) (e : Event) (m m′ : List ℕ) : Type 0 where
-  pub called-there : part size i m′ ≡ called serves (part size i m) e
-  pub others : (j : ℕ) → j < g .servers → j ≢ i → part size j m′ ≡ part size j m
+pub record Steps (g : Group) (size i : ℕ) (e : Event) (m m' : List ℕ) : Type 0 where
+  pub called_there : part size i m' ≡ called serves (part size i m) e
+  pub others : (j : ℕ) → j < g.servers → j ≢ i → part size j m' ≡ part size j m
 
 -- servers that were opened are those of the new world
-abbrev pub Parts-open : Type 0
-Parts-open =
-    (g : Group) (size : ℕ) (m : List ℕ) → ((i : ℕ) → i < g .servers → part size i m ≡ opened (limits g i)) → Parts g size m new-world
+abbrev pub PartsOpen : Type 0
+PartsOpen =
+    (g : Group) (size : ℕ) (m : List ℕ) → ((i : ℕ) → i < g.servers → part size i m ≡ opened (limits g i)) → Parts g size m new_world
 
 -- after the event the parts are those of the world in which it happened
-abbrev pub Parts-step : Type 0
-Parts-step =
-    (g : Group) (size i : ℕ) (e : Event) (m m′ : List ℕ) (w : World) → i < g .servers → Parts g size m w → Steps g size i e m m′
-    → Parts g size m′ (happens server g w i e)
+abbrev pub PartsStep : Type 0
+PartsStep =
+    (g : Group) (size i : ℕ) (e : Event) (m m' : List ℕ) (w : World) → i < g.servers → Parts g size m w → Steps g size i e m m'
+    → Parts g size m' (happens server g w i e)
 
 -- what can happen at a server: anything but a message that was never sent to it
-abbrev pub Can-happen : World → ℕ → Event → Type 0
-Can-happen w i timeout = Unit {0}
-Can-happen w i (request c k x) = Unit {0}
-Can-happen w i (comes h m) = In (record { by = h; letter = record { to = i; message = m } }) (w .sent)
-Can-happen w i restart = Unit {0}
-Can-happen w i (garbled n) = Unit {0}
+abbrev pub CanHappen : World → ℕ → Event → Type 0
+CanHappen w i timeout = Unit {0}
+CanHappen w i (request c k x) = Unit {0}
+CanHappen w i (comes h m) = In (record { by = h; letter = record { to = i; message = m } }) w.sent
+CanHappen w i restart = Unit {0}
+CanHappen w i (garbled n) = Unit {0}
 
 -- a world that can be: it was lived, of events that bytes can carry
 pub record Alive (g : Group) (w : World) : Type 0 where
   pub lived : Lived server g w
-  pub carried : readable-world w
+  pub carried : readable_world w
 
-abbrev pub Alive-new : Type 0
-Alive-new = (g : Group) → Alive g new-world
+abbrev pub AliveNew : Type 0
+AliveNew = (g : Group) → Alive g new_world
 
-abbrev pub Alive-on : Type 0
-Alive-on =
-    (g : Group) (w : World) (i : ℕ) (e : Event) → i < g .servers → readable e ≡ true → Can-happen w i e → Alive g w
+abbrev pub AliveOn : Type 0
+AliveOn =
+    (g : Group) (w : World) (i : ℕ) (e : Event) → i < g.servers → readable e ≡ true → CanHappen w i e → Alive g w
     → Alive g (happens server g w i e)

@@ -1,15 +1,13 @@
 -- The letters of the index as the code reads them. Assumes nothing: these are definitions.
-use mathlib.Core.List.{List}
-use Prim.Native.Nat.{ℕ, _+_, _*_, _-_}
-use lib.ListN.{getD}
-use Rattle·group·specs.declared.look.Letter.{Letter}
+use Rattle.std.specs.Prelude.{ℕ, ◌+◌, ◌-◌, ◌*◌, List, slice_index}
+use Rattle.group.specs.declared.look.Letter.{Letter}
 
 -- the letter of a number, by its words
-abbrev pub letter-in : List ℕ → ℕ → Letter
-letter-in ws n =
+abbrev pub letter_in : List ℕ → ℕ → Letter
+letter_in ws n =
     record {
-      from = getD ws (4 * (n - 1)) 0;
-      to = getD ws (4 * (n - 1) + 1) 0;
-      start = getD ws (4 * (n - 1) + 2) 0;
-      len = getD ws (4 * (n - 1) + 3) 0;
+      from = slice_index ws (4 * (n - 1));
+      to = slice_index ws (4 * (n - 1) + 1);
+      start = slice_index ws (4 * (n - 1) + 2);
+      len = slice_index ws (4 * (n - 1) + 3);
     }

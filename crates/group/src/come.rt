@@ -1,19 +1,16 @@
 // A LETTER COMES, by its number: now or late, again and again, or never.
-ghost use Prim.Native.Nat.{_+_, _≤_, _<_};
-ghost use lib.ListN.{length};
-ghost use Rattle·wire.specs.Read.{read-event};
-ghost use Rattle·group·specs.Journals.{world-in};
-ghost use Rattle·group·specs.Letters.{message-coming};
-ghost use Rattle·group·specs.Parts.{Can-happen};
-ghost use Rattle·group·specs.Playing.{Playing, Full, Outcome, Coming};
-use crate::happen::Denied;
-use crate::happen::Group;
-use crate::happen::Kept;
+ghost use Rattle.std.specs.Prelude.{◌+◌, ◌<◌, ◌≤◌, length};
+ghost use Rattle.wire.specs.Read.{read_event};
+ghost use Rattle.group.specs.Journals.{world_in};
+ghost use Rattle.group.specs.Letters.{message_coming};
+ghost use Rattle.group.specs.Parts.{CanHappen};
+ghost use Rattle.group.specs.Playing.{Playing, Full, Outcome, Coming};
+
+use crate::happen::{Denied, Group, Kept};
 use crate::index::letter_at;
 use crate::journal::put_coming;
 use crate::look::Letter;
-use crate::turn::room;
-use crate::turn::take;
+use crate::turn::{room, take};
 
 // What stands before a message in its event: what it is, and the sender.
 const COMES: usize = 2;
@@ -28,16 +25,16 @@ fn deliver(
     letters: &mut [u64],
     l: Letter,
 ) -> Result<Kept, Denied>
-    requires playing { ⌜ Playing g kept (now mems) (now events) (now answers) (now letters) ⌝ }
-    requires there { ⌜ l .to < g .servers ⌝ }
-    requires within { ⌜ l .start + l .len ≤ kept .answers ⌝ }
-    requires can { ⌜ Can-happen (world-in (kept .happenings) (now events) (now answers)) (l .to)
-        (read-event (message-coming (l .from) (l .start) (l .len) (now answers))) ⌝ }
-    ensures { λ r. ⌜ Outcome (Full g kept (2 + l .len) (length (now (events .entry)))
-        (length (now (answers .entry))) (length (now (letters .entry))))
-        g kept (l .to) (read-event (message-coming (l .from) (l .start) (l .len) (now (answers .entry))))
-        (now (mems .entry)) (now (events .entry)) (now (answers .entry)) (now (letters .entry))
-        (now (mems .exit)) (now (events .exit)) (now (answers .exit)) (now (letters .exit)) r ⌝ }
+    requires playing { Playing g kept mems.old events.old answers.old letters.old }
+    requires there { l.to < g.servers }
+    requires within { l.start + l.len ≤ kept.answers }
+    requires can { CanHappen (world_in kept.happenings events.old answers.old) l.to
+        (read_event (message_coming l.from l.start l.len answers.old)) }
+    ensures { Outcome (Full g kept (2 + l.len) (length events.old)
+        (length answers.old) (length letters.old))
+        g kept l.to (read_event (message_coming l.from l.start l.len answers.old))
+        mems.old events.old answers.old letters.old
+        mems.new events.new answers.new letters.new result }
 {
     room(
         g,
@@ -63,9 +60,9 @@ pub fn come(
     letters: &mut [u64],
     letter: usize,
 ) -> Result<Kept, Denied>
-    requires playing { ⌜ Playing g kept (now mems) (now events) (now answers) (now letters) ⌝ }
-    ensures { λ r. ⌜ Coming g kept letter (now (mems .entry)) (now (events .entry)) (now (answers .entry)) (now (letters .entry))
-        (now (mems .exit)) (now (events .exit)) (now (answers .exit)) (now (letters .exit)) r ⌝ }
+    requires playing { Playing g kept mems.old events.old answers.old letters.old }
+    ensures { Coming g kept letter mems.old events.old answers.old letters.old
+        mems.new events.new answers.new letters.new result }
 {
     if letter == 0 {
         return Err(Denied::Letter);

@@ -1,14 +1,12 @@
 // ONE HAPPENING: an event comes to a server of the group, and what it was, what was answered and what was sent is kept.
-ghost use mathlib.Core.Path.{_≡_};
-ghost use Prim.Native.Nat.{_<_};
-ghost use lib.ListN.{length};
-ghost use Rattle·wire.specs.Read.{read-event};
-ghost use Rattle·group·specs.Journals.{world-in};
-ghost use Rattle·group·specs.Parts.{Can-happen};
-ghost use Rattle·group·specs.Playing.{Playing, Full, Why, Outcome, from-server};
+ghost use Rattle.std.specs.Prelude.{◌≡◌, ◌<◌, length};
+ghost use Rattle.wire.specs.Read.{read_event};
+ghost use Rattle.group.specs.Journals.{world_in};
+ghost use Rattle.group.specs.Parts.{CanHappen};
+ghost use Rattle.group.specs.Playing.{Playing, Full, Why, Outcome, from_server};
+
 use crate::journal::put_came;
-use crate::turn::room;
-use crate::turn::take;
+use crate::turn::{room, take};
 use wire_read::event::read_event;
 use wire_read::parts::Event;
 
@@ -54,13 +52,13 @@ fn happen(
     server: u8,
     event: &[u8],
 ) -> Result<Kept, Denied>
-    requires playing { ⌜ Playing g kept (now mems) (now events) (now answers) (now letters) ⌝ }
-    requires there { ⌜ server < g .servers ⌝ }
-    requires can { ⌜ Can-happen (world-in (kept .happenings) (now events) (now answers)) server (read-event (now event)) ⌝ }
-    ensures { λ r. ⌜ Outcome (Full g kept (length (now (event .entry))) (length (now (events .entry)))
-        (length (now (answers .entry))) (length (now (letters .entry))))
-        g kept server (read-event (now (event .entry))) (now (mems .entry)) (now (events .entry)) (now (answers .entry)) (now (letters .entry))
-        (now (mems .exit)) (now (events .exit)) (now (answers .exit)) (now (letters .exit)) r ⌝ }
+    requires playing { Playing g kept mems.old events.old answers.old letters.old }
+    requires there { server < g.servers }
+    requires can { CanHappen (world_in kept.happenings events.old answers.old) server (read_event event.now) }
+    ensures { Outcome (Full g kept (length event.now) (length events.old)
+        (length answers.old) (length letters.old))
+        g kept server (read_event event.now) mems.old events.old answers.old letters.old
+        mems.new events.new answers.new letters.new result }
 {
     room(
         g,
@@ -76,7 +74,7 @@ fn happen(
 
 // Whether bytes are read as a message from a server.
 fn is_message(event: &[u8]) -> bool
-    ensures { λ r. ⌜ r ≡ from-server (read-event (now (event .entry))) ⌝ }
+    ensures { result ≡ from_server (read_event event.now) }
 {
     match read_event(event) {
         Event::Comes(_, _) => true,
@@ -98,11 +96,11 @@ pub fn happen_outside(
     server: u8,
     event: &[u8],
 ) -> Result<Kept, Denied>
-    requires playing { ⌜ Playing g kept (now mems) (now events) (now answers) (now letters) ⌝ }
-    ensures { λ r. ⌜ Outcome (Why g kept server (now (event .entry)) (length (now (events .entry)))
-        (length (now (answers .entry))) (length (now (letters .entry))))
-        g kept server (read-event (now (event .entry))) (now (mems .entry)) (now (events .entry)) (now (answers .entry)) (now (letters .entry))
-        (now (mems .exit)) (now (events .exit)) (now (answers .exit)) (now (letters .exit)) r ⌝ }
+    requires playing { Playing g kept mems.old events.old answers.old letters.old }
+    ensures { Outcome (Why g kept server event.now (length events.old)
+        (length answers.old) (length letters.old))
+        g kept server (read_event event.now) mems.old events.old answers.old letters.old
+        mems.new events.new answers.new letters.new result }
 {
     if server as u64 >= g.servers {
         return Err(Denied::Server);

@@ -1,23 +1,19 @@
 // The journals: an event as it came, written at the end of the others.
-ghost use mathlib.Core.List.{_∷_};
-ghost use mathlib.Core.Path.{_≡_};
-ghost use Prim.Native.Nat.{_+_, _≤_};
-ghost use lib.ListN.{length};
-ghost use Rattle·wire_write.specs.Put.{Writes};
-ghost use Rattle·group·specs.Journals.{write-came};
+ghost use Rattle.std.specs.Prelude.{◌≡◌, ◌+◌, ◌≤◌, ◌∷◌, length};
+ghost use Rattle.wire_write.specs.Put.{Writes};
+ghost use Rattle.group.specs.Journals.{write_came};
+
 use wire_write::answer::write_comes;
-use wire_write::put::write_byte;
-use wire_write::put::write_number;
-use wire_write::put::write_text;
+use wire_write::put::{write_byte, write_number, write_text};
 
 // What a happening has in the journal of events besides the event: the server, and how many bytes.
 pub const HEAD: usize = 9;
 
 // An event that came to a server, and the place after it.
 pub fn put_came(events: &mut [u8], at: usize, server: u8, event: &[u8]) -> usize
-    requires { ⌜ at + 9 + length (now event) ≤ length (now events) ⌝ }
-    ensures bytes { λ r. ⌜ Writes at (write-came server (now (event .entry))) (now (events .entry)) (now (events .exit)) r ⌝ }
-    ensures next { λ r. ⌜ r ≡ at + 9 + length (now (event .entry)) ⌝ }
+    requires { at + 9 + length event.now ≤ length events.old }
+    ensures bytes { Writes at (write_came server event.now) events.old events.new result }
+    ensures next { result ≡ at + 9 + length event.now }
 {
     let next = write_byte(events, at, server);
     write_text(events, next, event)
@@ -25,9 +21,9 @@ pub fn put_came(events: &mut [u8], at: usize, server: u8, event: &[u8]) -> usize
 
 // A letter that comes: its message's bytes as they were sent, with the sender before them.
 pub fn put_coming(events: &mut [u8], at: usize, server: u8, from: u8, message: &[u8]) -> usize
-    requires { ⌜ at + 11 + length (now message) ≤ length (now events) ⌝ }
-    ensures bytes { λ r. ⌜ Writes at (write-came server (2 ∷ (from ∷ now (message .entry)))) (now (events .entry)) (now (events .exit)) r ⌝ }
-    ensures next { λ r. ⌜ r ≡ at + 11 + length (now (message .entry)) ⌝ }
+    requires { at + 11 + length message.now ≤ length events.old }
+    ensures bytes { Writes at (write_came server (2 ∷ (from ∷ message.now))) events.old events.new result }
+    ensures next { result ≡ at + 11 + length message.now }
 {
     let size = write_byte(events, at, server);
     let event = write_number(events, size, message.len() as u64 + 2);

@@ -1,13 +1,12 @@
 // WHAT CAN BE SEEN of a group that plays: the memory of a server, and a letter. Nothing changes.
-ghost use mathlib.Core.Path.{_≡_};
-ghost use Prim.Native.Nat.{_≤_, _<_};
-ghost use Rattle·servers.specs.World.{limits};
-ghost use Rattle·servers.specs.Promise.{at-server};
-ghost use Rattle·state.specs.Held.{Holding};
-ghost use Rattle·group·specs.Parts.{part};
-ghost use Rattle·group·specs.Playing.{Playing, Is-letter, group-of, world-of};
-use crate::happen::Group;
-use crate::happen::Kept;
+ghost use Rattle.std.specs.Prelude.{◌≡◌, ◌<◌, ◌≤◌};
+ghost use Rattle.servers.specs.World.{limits};
+ghost use Rattle.servers.specs.Promise.{at_server};
+ghost use Rattle.state.specs.Held.{Holding};
+ghost use Rattle.group.specs.Parts.{part};
+ghost use Rattle.group.specs.Playing.{Playing, IsLetter, group_of, world_of};
+
+use crate::happen::{Group, Kept};
 use crate::index::letter_at;
 
 // A letter: who sent it, to whom, and where its message's bytes stand among the answers.
@@ -29,11 +28,11 @@ pub fn server_words<'a>(
     letters: &[u64],
     server: usize,
 ) -> &'a [u64]
-    requires playing { ⌜ Playing g kept (now mems) (now events) (now answers) (now letters) ⌝ }
-    requires there { ⌜ server < g .servers ⌝ }
-    ensures words { λ r. ⌜ now r ≡ part (g .words) server (now (mems .entry)) ⌝ }
-    ensures holds { λ r. ⌜ Holding (limits (group-of g) server)
-        (at-server (group-of g) (world-of kept (now (events .entry)) (now (answers .entry))) server) (now r) ⌝ }
+    requires playing { Playing g kept mems.now events.now answers.now letters.now }
+    requires there { server < g.servers }
+    ensures words { result.now ≡ part g.words server mems.now }
+    ensures holds { Holding (limits (group_of g) server)
+        (at_server (group_of g) (world_of kept events.now answers.now) server) result.now }
 {
     let start = server * g.words;
     let end = start + g.words;
@@ -50,10 +49,10 @@ pub fn read_letter(
     letters: &[u64],
     number: usize,
 ) -> Letter
-    requires playing { ⌜ Playing g kept (now mems) (now events) (now answers) (now letters) ⌝ }
-    requires some { ⌜ 1 ≤ number ⌝ }
-    requires there { ⌜ number ≤ kept .letters ⌝ }
-    ensures { λ r. ⌜ Is-letter g kept number (now (events .entry)) (now (answers .entry)) r ⌝ }
+    requires playing { Playing g kept mems.now events.now answers.now letters.now }
+    requires some { 1 ≤ number }
+    requires there { number ≤ kept.letters }
+    ensures { IsLetter g kept number events.now answers.now result }
 {
     letter_at(letters, number)
 }

@@ -1,24 +1,19 @@
 // A group is opened: how much it needs, and its servers, each in its own part.
-ghost use mathlib.Core.Path.{_≡_};
-ghost use Prim.Native.Nat.{_*_, _≤_, _<_};
-ghost use lib.ListN.{length};
-ghost use Rattle·servers.specs.World.{limits};
-ghost use Rattle·servers.specs.Opened.{opened};
-ghost use Rattle·memory.specs.Program as program;
-ghost use Rattle·group·specs.Opening.{Sized, Fits-group, Plays-new, group-sized, none-kept};
-ghost use Rattle·group·specs.Playing.{group-of};
-use crate::happen::Group;
-use crate::happen::Kept;
-use server::open::answer_bytes;
-use server::open::memory_words;
-use server::open::open;
-use servers::limits::Limits;
-use servers::limits::Unfit;
+ghost use Rattle.std.specs.Prelude.{◌≡◌, ◌*◌, ◌<◌, ◌≤◌, length};
+ghost use Rattle.servers.specs.World.{limits};
+ghost use Rattle.servers.specs.Opened.{opened};
+ghost use Rattle.memory.specs.Program as program;
+ghost use Rattle.group.specs.Opening.{Sized, FitsGroup, PlaysNew, group_sized, none_kept};
+ghost use Rattle.group.specs.Playing.{group_of};
+
+use crate::happen::{Group, Kept};
+use server::open::{answer_bytes, memory_words, open};
+use servers::limits::{Limits, Unfit};
 
 // A group of so many servers and clients, with room for so many entries, or the limit that is out of its range.
 pub fn sized(servers: u64, clients: u64, room: u64) -> Result<Group, Unfit>
-    ensures value { λ r. ⌜ r ≡ group-sized (opened servers 0 clients room) ⌝ }
-    ensures sized { λ r. ⌜ Fits-group r ⌝ }
+    ensures value { result ≡ group_sized (opened servers 0 clients room) }
+    ensures sized { FitsGroup result }
 {
     match Limits::new(servers, 0, clients, room) {
         Ok(l) => Ok(Group {
@@ -33,10 +28,10 @@ pub fn sized(servers: u64, clients: u64, room: u64) -> Result<Group, Unfit>
 }
 
 fn open_one(mem: &mut [u64], g: Group, me: u64)
-    requires sized { ⌜ Sized g ⌝ }
-    requires there { ⌜ me < g .servers ⌝ }
-    requires long { ⌜ length (now mem) ≡ g .words ⌝ }
-    ensures { λ _. ⌜ now (mem .exit) ≡ program.opened (limits (group-of g) me) ⌝ }
+    requires sized { Sized g }
+    requires there { me < g.servers }
+    requires long { length mem.old ≡ g.words }
+    ensures { mem.new ≡ program.opened (limits (group_of g) me) }
 {
     let l = Limits {
         servers: g.servers,
@@ -49,10 +44,10 @@ fn open_one(mem: &mut [u64], g: Group, me: u64)
 
 // Opens every server of the group. Nothing has happened, whatever stands in the journals and the index.
 pub fn open_group(g: Group, mems: &mut [u64]) -> Kept
-    requires sized { ⌜ Sized g ⌝ }
-    requires long { ⌜ g .servers * g .words ≤ length (now mems) ⌝ }
-    ensures none { λ r. ⌜ r ≡ none-kept ⌝ }
-    ensures playing { λ r. ⌜ Plays-new g r (now (mems .exit)) ⌝ }
+    requires sized { Sized g }
+    requires long { g.servers * g.words ≤ length mems.old }
+    ensures none { result ≡ none_kept }
+    ensures playing { PlaysNew g result mems.new }
 {
     for i in 0..g.servers {
         let at = i as usize * g.words;

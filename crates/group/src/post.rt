@@ -1,8 +1,8 @@
 // After a step its letters are posted: they are put into the index, where they stand in the answer.
-ghost use Prim.Native.Nat.{_+_, _*_, _≤_};
-ghost use lib.ListN.{length};
-ghost use Rattle·servers.specs.World.{letters};
-ghost use Rattle·group·specs.Posted.{Posted, Stands, answer-in};
+ghost use Rattle.std.specs.Prelude.{◌+◌, ◌*◌, ◌≤◌, length};
+ghost use Rattle.servers.specs.World.{letters};
+ghost use Rattle.group.specs.Posted.{Posted, Stands, answer_in};
+
 use crate::index::put_letters;
 use crate::told::after_told;
 use wire_write::answer::Answer;
@@ -21,10 +21,10 @@ pub fn post(
     count: usize,
     from: u8,
 ) -> usize
-    requires stands { ⌜ Stands (answer-in at (now answers)) at (now answers) answer ⌝ }
-    requires room { ⌜ 4 * (count + length (letters (answer-in at (now answers)))) ≤ length (now index) ⌝ }
-    ensures { λ r. ⌜ Posted (answer-in at (now (answers .entry))) from at count (now (answers .entry))
-        (now (index .entry)) (now (index .exit)) r ⌝ }
+    requires stands { Stands (answer_in at answers.now) at answers.now answer }
+    requires room { 4 * (count + length (letters (answer_in at answers.now))) ≤ length index.old }
+    ensures { Posted (answer_in at answers.now) from at count answers.now
+        index.old index.new result }
 {
     match answer {
         Answer::Refused(_, _) => count,

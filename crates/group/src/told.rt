@@ -1,14 +1,11 @@
 // What a server tells its clients, read from the bytes of its answer.
-ghost use mathlib.Core.Path.{_≡_};
-ghost use mathlib.Core.Bool.{true};
-ghost use Prim.Native.Nat.{_≤_};
-ghost use lib.ListN.{length, drop};
-ghost use Rattle·wire.specs.Read.{got, read-said, read-saids};
-ghost use Rattle·wire_read.specs.Means.{is-got, passed};
-ghost use Rattle·group·specs.Told.{Reads-said};
+ghost use Rattle.std.specs.Prelude.{◌≡◌, ◌≤◌, true, length, drop};
+ghost use Rattle.wire.specs.Read.{got, read_said, read_saids};
+ghost use Rattle.wire_read.specs.Means.{is_got, passed};
+ghost use Rattle.group.specs.Told.{ReadsSaid};
+
 use wire_read::parts::Text;
-use wire_read::read::read_number;
-use wire_read::read::read_perhaps;
+use wire_read::read::{read_number, read_perhaps};
 
 // To which client, for which of its numbers, and the reply: what is there now, and what was there.
 #[derive(Clone, Copy)]
@@ -20,8 +17,8 @@ pub struct Said {
 }
 
 pub fn read_said(b: &[u8], at: usize) -> Result<(Said, usize), usize>
-    requires { ⌜ at ≤ length (now b) ⌝ }
-    ensures { λ r. ⌜ Reads-said (now (b .entry)) at read-said r ⌝ }
+    requires { at ≤ length b.now }
+    ensures { ReadsSaid b.now at read_said result }
 {
     let (client, next) = read_number(b, at)?;
     let (id, next) = read_number(b, next)?;
@@ -40,10 +37,10 @@ pub fn read_said(b: &[u8], at: usize) -> Result<(Said, usize), usize>
 
 // The place after so many that are known to be there.
 pub fn after_told(b: &[u8], at: usize, count: u64) -> usize
-    requires within { ⌜ at ≤ length (now b) ⌝ }
-    requires there { ⌜ is-got (read-saids count (drop at (now b))) ≡ true ⌝ }
-    ensures place { λ r. ⌜ passed (read-saids count (drop at (now (b .entry)))) ≡ got tt (drop r (now (b .entry))) ⌝ }
-    ensures within { λ r. ⌜ r ≤ length (now (b .entry)) ⌝ }
+    requires within { at ≤ length b.now }
+    requires there { is_got (read_saids count (drop at b.now)) ≡ true }
+    ensures place { passed (read_saids count (drop at b.now)) ≡ got tt (drop result b.now) }
+    ensures within { result ≤ length b.now }
 {
     let mut next = at;
     for _k in 0..count {

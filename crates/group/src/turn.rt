@@ -1,21 +1,18 @@
 // What every happening is, wherever its event came from: there is room for it, its server takes it, and what is sent is posted.
-ghost use Prim.Native.Nat.{_+_, _*_, _-_, _≤_, _<_};
-ghost use lib.ListN.{length};
-ghost use Rattle·wire.specs.Sizes.{answer-size};
-ghost use Rattle·wire.specs.Read.{read-event};
-ghost use Rattle·state.specs.Held.{limits-of};
-ghost use Rattle·server.specs.Reached.{Reached};
-ghost use Rattle·group·specs.Journals.{world-in};
-ghost use Rattle·group·specs.Parts.{part, Can-happen};
-ghost use Rattle·group·specs.Playing.{Playing, Turned, Came-at, Played, Room, event-in, never};
-use crate::happen::Denied;
-use crate::happen::Group;
-use crate::happen::Kept;
+ghost use Rattle.std.specs.Prelude.{◌+◌, ◌-◌, ◌*◌, ◌<◌, ◌≤◌, length};
+ghost use Rattle.wire.specs.Sizes.{answer_size};
+ghost use Rattle.wire.specs.Read.{read_event};
+ghost use Rattle.state.specs.Held.{limits_of};
+ghost use Rattle.server.specs.Reached.{Reached};
+ghost use Rattle.group.specs.Journals.{world_in};
+ghost use Rattle.group.specs.Parts.{part, CanHappen};
+ghost use Rattle.group.specs.Playing.{Playing, Turned, CameAt, Played, Room, event_in, never};
+
+use crate::happen::{Denied, Group, Kept};
 use crate::journal::HEAD;
 use crate::post::post;
 use server::step::step;
-use wire_write::answer::Answer;
-use wire_write::answer::answer_len;
+use wire_write::answer::{Answer, answer_len};
 
 // Whether one more event of so many bytes can be kept, whatever is answered and sent.
 pub fn room(
@@ -26,13 +23,13 @@ pub fn room(
     answers: usize,
     letters: usize,
 ) -> Result<(), Denied>
-    requires len { ⌜ len + 9 < 18446744073709551616 ⌝ }
-    requires events { ⌜ kept .events ≤ events ⌝ }
-    requires answers { ⌜ kept .answers ≤ answers ⌝ }
-    requires letters { ⌜ 4 * kept .letters ≤ letters ⌝ }
-    requires servers { ⌜ 2 ≤ g .servers ⌝ }
-    requires few { ⌜ g .servers ≤ 16 ⌝ }
-    ensures { λ r. ⌜ Room g kept len events answers letters r ⌝ }
+    requires len { len + 9 < 18446744073709551616 }
+    requires events { kept.events ≤ events }
+    requires answers { kept.answers ≤ answers }
+    requires letters { 4 * kept.letters ≤ letters }
+    requires servers { 2 ≤ g.servers }
+    requires few { g.servers ≤ 16 }
+    ensures { Room g kept len events answers letters result }
 {
     if events - kept.events < HEAD + len {
         return Err(Denied::Events);
@@ -55,11 +52,11 @@ pub fn turn(
     answers: &mut [u8],
     at: usize,
 ) -> Answer
-    requires within { ⌜ server * words + words ≤ length (now mems) ⌝ }
-    requires reached { ⌜ Reached (limits-of (part words server (now mems))) (part words server (now mems)) ⌝ }
-    requires room { ⌜ at + answer-size (limits-of (part words server (now mems))) ≤ length (now answers) ⌝ }
-    ensures { λ r. ⌜ Turned words server at (now (event .entry)) (now (mems .entry)) (now (answers .entry))
-        (now (mems .exit)) (now (answers .exit)) r ⌝ }
+    requires within { server * words + words ≤ length mems.old }
+    requires reached { Reached (limits_of (part words server mems.old)) (part words server mems.old) }
+    requires room { at + answer_size (limits_of (part words server mems.old)) ≤ length answers.old }
+    ensures { Turned words server at event.now mems.old answers.old
+        mems.new answers.new result }
 {
     let start = server * words;
     step(&mut mems[start..start + words], event, &mut answers[at..])
@@ -76,15 +73,15 @@ pub fn take(
     server: u8,
     end: usize,
 ) -> Kept
-    requires playing { ⌜ Playing g kept (now mems) (now events) (now answers) (now letters) ⌝ }
-    requires there { ⌜ server < g .servers ⌝ }
-    requires came { ⌜ Came-at (kept .events) end server (now events) ⌝ }
-    requires can { ⌜ Can-happen (world-in (kept .happenings) (now events) (now answers)) server
-        (read-event (event-in (kept .events) end (now events))) ⌝ }
-    requires answer { ⌜ kept .answers + g .longest ≤ length (now answers) ⌝ }
-    requires post { ⌜ 4 * (kept .letters + (g .servers - 1)) ≤ length (now letters) ⌝ }
-    ensures { λ r. ⌜ Played never g kept server (read-event (event-in (kept .events) end (now (events .entry))))
-        (now (events .entry)) (now (answers .entry)) r (now (mems .exit)) (now (events .entry)) (now (answers .exit)) (now (letters .exit)) ⌝ }
+    requires playing { Playing g kept mems.old events.now answers.old letters.old }
+    requires there { server < g.servers }
+    requires came { CameAt kept.events end server events.now }
+    requires can { CanHappen (world_in kept.happenings events.now answers.old) server
+        (read_event (event_in kept.events end events.now)) }
+    requires answer { kept.answers + g.longest ≤ length answers.old }
+    requires post { 4 * (kept.letters + (g.servers - 1)) ≤ length letters.old }
+    ensures { Played never g kept server (read_event (event_in kept.events end events.now))
+        events.now answers.old result mems.new events.now answers.new letters.new }
 {
     let event = &events[kept.events + HEAD..end];
     let answer = turn(mems, g.words, server as usize, event, answers, kept.answers);

@@ -1,40 +1,36 @@
 -- What words that hold a log give to the log's functions, and commands of one byte over and over.
-use mathlib.Core.Path.{_≡_, refl, sym, ap, subst, _∙_}
-use mathlib.Core.List.{List, [], _∷_, _++_}
-use Prim.Native.Nat.{ℕ, zero, suc, _+_, _*_, _-_, _≤_, _<_}
-use lib.ListN.{length, take, drop, replicate}
-use native.Mathlib.Omega.{arith}
-use Rattle·std.proofs.shelf.Lists.{length-replicate, take-replicate, drop-replicate}
-use Rattle·servers.specs.Server.{Entry}
-use Rattle·servers.specs.Store.{Command, put}
-use Rattle·texts.specs.Words.{All, Byte, Text, word}
-use Rattle·log.specs.Rows.{log-words, log-region, Good-entry, Good-command}
-use Rattle·log.specs.Bytes.{Sound}
-use Rattle·log.specs.Numbers.{entry-by}
-use Rattle·log.specs.declared.row.Numbers.{Numbers}
-use Rattle·log.proofs.Rows.{length-region}
-use Rattle·log.proofs.Sound.{sound-log}
-use Rattle·log_tests·specs.Held.{Held}
+use Rattle.std.proofs.Common.{◌≡◌, ℕ, zero, suc, ◌+◌, ◌-◌, ◌*◌, ◌<◌, ◌≤◌, List, [], ◌∷◌, ◌++◌, length, take, drop, replicate, sym, refl, ap, ◌∙◌, subst, arith}
+use Rattle.std.proofs.lemmas.List.{length-replicate, take-replicate, drop-replicate}
+use Rattle.servers.specs.Server.{Entry}
+use Rattle.servers.specs.Store.{Command, put}
+use Rattle.texts.specs.Words.{All, Byte, Text, word}
+use Rattle.raft_log.specs.Rows.{log_words, log_region, GoodEntry, GoodCommand}
+use Rattle.raft_log.specs.Bytes.{Sound}
+use Rattle.raft_log.specs.Numbers.{entry_by}
+use Rattle.raft_log.specs.declared.row.Numbers.{Numbers}
+use Rattle.raft_log.proofs.Rows.{length_region}
+use Rattle.raft_log.proofs.Sound.{sound_log}
+use Rattle.log_tests.specs.Held.{Held}
 
-pub held-long : (n : ℕ) (ws : List ℕ) → Held n ws → n ≤ 4 → length ws ≡ 320
-held-long n ws h k = let l = h .long in ap length (h .is) ∙ length-region 4 (h .log) (omega arith)
+pub held_long : (n : ℕ) (ws : List ℕ) → Held n ws → n ≤ 4 → length ws ≡ 320
+held_long n ws h k = let l = h.long in ap length h.is ∙ length_region 4 h.log (omega arith)
 
-pub held-sound : (n : ℕ) (ws : List ℕ) → Held n ws → Sound n ws
-held-sound n ws h =
-    let s : Sound (length (h .log)) (log-region 4 (h .log)) =
-    sound-log 256 word word (h .log) (replicate (80 * (4 - length (h .log))) 0) (omega arith) (h .good) in
-    subst (λ (k : ℕ). Sound k ws) (h .long) (subst (λ (x : List ℕ). Sound (length (h .log)) x) (sym (h .is)) s)
+pub held_sound : (n : ℕ) (ws : List ℕ) → Held n ws → Sound n ws
+held_sound n ws h =
+    let s : Sound (length h.log) (log_region 4 h.log) =
+    sound_log 256 word word h.log (replicate (80 * (4 - length h.log)) 0) (omega arith) h.good in
+    subst (λ (k : ℕ). Sound k ws) h.long (subst (λ (x : List ℕ). Sound (length h.log) x) (sym h.is) s)
 
-pub held-none : (ws : List ℕ) → ws ≡ replicate 320 0 → Held 0 ws
-unfolding log-words
-held-none ws e = record { log = []; long = refl; good = tt; is = e }
+pub held_none : (ws : List ℕ) → ws ≡ replicate 320 0 → Held 0 ws
+unfolding log_words
+held_none ws e = record { log = []; long = refl; good = tt; is = e }
 
 -- the same byte so many times
-same-bytes : (n x : ℕ) → x < 256 → All Byte (replicate n x)
-same-bytes zero x h = tt
-same-bytes (suc n) x h = (h, same-bytes n x h)
+same_bytes : (n x : ℕ) → x < 256 → All Byte (replicate n x)
+same_bytes zero x h = tt
+same_bytes (suc n) x h = (h, same_bytes n x h)
 
-pub part-text : (most at len all x : ℕ) → x < 256 → at + len ≤ all → len ≤ most → Text most (take len (drop at (replicate all x)))
-part-text most at len all x h k m =
+pub part_text : (most at len all x : ℕ) → x < 256 → at + len ≤ all → len ≤ most → Text most (take len (drop at (replicate all x)))
+part_text most at len all x h k m =
     subst (λ (t : List ℕ). Text most t) (sym (ap (take len) (drop-replicate at all x) ∙ take-replicate len (all - at) x (omega arith)))
-    (let l = length-replicate len x in omega arith, same-bytes len x h)
+    (let l = length-replicate len x in omega arith, same_bytes len x h)

@@ -1,82 +1,78 @@
 -- A memory is read back: the limits, the state and the region that it is of.
-use mathlib.Core.Path.{_≡_, refl, sym, ap, _∙_, fun-ext}
-use mathlib.Core.Bool.{Bool, true, false}
-use mathlib.Core.List.{List, [], _∷_, _++_, map}
-use Prim.Native.Nat.{ℕ, zero, suc, _+_, _*_, _-_, _≤_, _<_}
-use lib.ListN.{length, getD, take, drop, replicate}
-use native.Mathlib.Omega.{arith}
-use Rattle·std.proofs.shelf.Lists.{drop-drop, drop-at, take-at, length-map}
-use Rattle·servers.specs.Server.{Entry, Limits, State, last-of-all}
-use Rattle·log.specs.Rows.{log-in, log-region}
-use Rattle·memory·specs.Words.{option-word, option-in, bits-of, bools, cache-words, cache-in}
-use Rattle·store.specs.Region.{items-of}
-use Rattle·memory·specs.Layout.{rest-of, memory-of, limits-in, log-part, region-in, state-in}
-use Rattle·memory·specs.Fits.{Entry-fits, Mid}
-use Rattle·log.proofs.Rows.{length-region, log-again}
-use Rattle·memory·proofs.Parts.{option-again, options-again, bit-again, bits-again, length-cache-words, cache-again}
+use Rattle.std.proofs.Common.{◌≡◌, ℕ, zero, suc, ◌+◌, ◌-◌, ◌*◌, ◌<◌, ◌≤◌, Bool, true, false, List, [], ◌∷◌, ◌++◌, map, length, get_or, take, drop, replicate, sym, refl, ap, ◌∙◌, arith}
+use mathlib.Core.Path.{fun_ext}
+use Rattle.std.proofs.lemmas.List.{drop-drop, drop_at, take_at, length-map}
+use Rattle.servers.specs.Server.{Entry, Limits, State, last_of_all}
+use Rattle.raft_log.specs.Rows.{log_in, log_region}
+use Rattle.memory.specs.Words.{option_word, option_in, bits_of, bools, cache_words, cache_in}
+use Rattle.store.specs.Region.{items_of}
+use Rattle.memory.specs.Layout.{rest_of, memory_of, limits_in, log_part, region_in, state_in}
+use Rattle.memory.specs.Fits.{EntryFits, Mid}
+use Rattle.raft_log.proofs.Rows.{length_region, log_again}
+use Rattle.memory.proofs.Parts.{option_again, options_again, bit_again, bits_again, length_cache_words, cache_again}
 
 -- one part further, where the part at `at` is ys of n words
 further : {A : Type 0} (at n next : ℕ) (m ys zs : List A) → drop at m ≡ ys ++ zs → length ys ≡ n → next ≡ at + n → drop next m ≡ zs
-further at n next m ys zs e k h = rw (h, ← drop-drop n at m, e) (drop-at ys zs n k)
+further at n next m ys zs e k h = rw (h, ← drop-drop n at m, e) (drop_at ys zs n k)
 
 -- where the parts begin
-pub at-matches : (l : Limits) (n : ℕ) (s : State) (r : List ℕ) → Mid l n s r
-    → drop (14 + l .servers) (memory-of l s r) ≡ s .matches ++ (cache-words (s .cache) ++ (log-region (l .room) (s .log) ++ r))
-at-matches l n s r f =
-    further 14 (l .servers) (14 + l .servers) (memory-of l s r) (map option-word (s .nexts)) _ refl
-    (length-map (s .nexts) option-word ∙ f .2 .next-long) refl
+pub at_matches : (l : Limits) (n : ℕ) (s : State) (r : List ℕ) → Mid l n s r
+    → drop (14 + l.servers) (memory_of l s r) ≡ s.matches ++ (cache_words s.cache ++ (log_region l.room s.log ++ r))
+at_matches l n s r f =
+    further 14 l.servers (14 + l.servers) (memory_of l s r) (map option_word s.nexts) _ refl
+    (length-map s.nexts option_word ∙ f.2.next_long) refl
 
-pub at-cache : (l : Limits) (n : ℕ) (s : State) (r : List ℕ) → Mid l n s r
-    → drop (14 + 2 * l .servers) (memory-of l s r) ≡ cache-words (s .cache) ++ (log-region (l .room) (s .log) ++ r)
-at-cache l n s r f =
-    further (14 + l .servers) (l .servers) (14 + 2 * l .servers) (memory-of l s r) (s .matches) _ (at-matches l n s r f)
-    (f .2 .match-long) (omega arith)
+pub at_cache : (l : Limits) (n : ℕ) (s : State) (r : List ℕ) → Mid l n s r
+    → drop (14 + 2 * l.servers) (memory_of l s r) ≡ cache_words s.cache ++ (log_region l.room s.log ++ r)
+at_cache l n s r f =
+    further (14 + l.servers) l.servers (14 + 2 * l.servers) (memory_of l s r) s.matches _ (at_matches l n s r f)
+    f.2.match_long (omega arith)
 
-pub at-log : (l : Limits) (n : ℕ) (s : State) (r : List ℕ) → Mid l n s r
-    → drop (14 + 2 * l .servers + 68 * l .clients) (memory-of l s r) ≡ log-region (l .room) (s .log) ++ r
-at-log l n s r f =
-    further (14 + 2 * l .servers) (68 * l .clients) (14 + 2 * l .servers + 68 * l .clients) (memory-of l s r)
-    (cache-words (s .cache)) _ (at-cache l n s r f)
-    (length-cache-words (s .cache) ∙ ap (λ (n : ℕ). 68 * n) (f .3 .cache-long)) refl
+pub at_log : (l : Limits) (n : ℕ) (s : State) (r : List ℕ) → Mid l n s r
+    → drop (14 + 2 * l.servers + 68 * l.clients) (memory_of l s r) ≡ log_region l.room s.log ++ r
+at_log l n s r f =
+    further (14 + 2 * l.servers) (68 * l.clients) (14 + 2 * l.servers + 68 * l.clients) (memory_of l s r)
+    (cache_words s.cache) _ (at_cache l n s r f)
+    (length_cache_words s.cache ∙ ap (λ (n : ℕ). 68 * n) f.3.cache_long) refl
 
-pub log-back : (l : Limits) (n : ℕ) (s : State) (r : List ℕ) → Mid l n s r
-    → log-part (memory-of l s r) ≡ log-region (l .room) (s .log)
-log-back l n s r f =
-    rw (at-log l n s r f) (take-at (log-region (l .room) (s .log)) r (80 * l .room) (length-region (l .room) (s .log) (f .1 .room)))
+pub log_back : (l : Limits) (n : ℕ) (s : State) (r : List ℕ) → Mid l n s r
+    → log_part (memory_of l s r) ≡ log_region l.room s.log
+log_back l n s r f =
+    rw (at_log l n s r f) (take_at (log_region l.room s.log) r (80 * l.room) (length_region l.room s.log f.1.room))
 
-pub region-back : (l : Limits) (n : ℕ) (s : State) (r : List ℕ) → Mid l n s r → region-in (memory-of l s r) ≡ r
-region-back l n s r f =
-    further (14 + 2 * l .servers + 68 * l .clients) (80 * l .room) (14 + 2 * l .servers + 68 * l .clients + 80 * l .room)
-    (memory-of l s r) (log-region (l .room) (s .log)) r (at-log l n s r f) (length-region (l .room) (s .log) (f .1 .room)) refl
+pub region_back : (l : Limits) (n : ℕ) (s : State) (r : List ℕ) → Mid l n s r → region_in (memory_of l s r) ≡ r
+region_back l n s r f =
+    further (14 + 2 * l.servers + 68 * l.clients) (80 * l.room) (14 + 2 * l.servers + 68 * l.clients + 80 * l.room)
+    (memory_of l s r) (log_region l.room s.log) r (at_log l n s r f) (length_region l.room s.log f.1.room) refl
 
-pub state-back : (l : Limits) (n : ℕ) (s : State) (r : List ℕ) → Mid l n s r → state-in (memory-of l s r) ≡ s
-state-back l n s r f =
-    let nexts : take (l .servers) (rest-of l s r) ≡ map option-word (s .nexts) =
-    take-at (map option-word (s .nexts)) _ (l .servers) (length-map (s .nexts) option-word ∙ f .2 .next-long) in
-    let matches : take (l .servers) (drop (14 + l .servers) (memory-of l s r)) ≡ s .matches =
-    rw (at-matches l n s r f) (take-at (s .matches) _ (l .servers) (f .2 .match-long)) in
-    let cache : cache-in (l .clients) (drop (14 + 2 * l .servers) (memory-of l s r)) ≡ s .cache =
-    rw (at-cache l n s r f, ← f .3 .cache-long) (cache-again (s .cache) _ (f .3 .cache-each)) in
-    let log : log-in (length (s .log)) (log-part (memory-of l s r)) ≡ s .log =
-    ap (log-in (length (s .log))) (log-back l n s r f)
-    ∙ log-again (l .servers) (l .clients) last-of-all (s .log) _ (f .1 .row) (f .1 .entries) in
-    let votes : bools (l .servers) (bits-of (s .votes)) ≡ s .votes = rw (← f .2 .votes) (bits-again (s .votes)) in
-    let store : items-of (region-in (memory-of l s r)) ≡ s .store = ap items-of (region-back l n s r f) ∙ f .3 .same in
+pub state_back : (l : Limits) (n : ℕ) (s : State) (r : List ℕ) → Mid l n s r → state_in (memory_of l s r) ≡ s
+state_back l n s r f =
+    let nexts : take l.servers (rest_of l s r) ≡ map option_word s.nexts =
+    take_at (map option_word s.nexts) _ l.servers (length-map s.nexts option_word ∙ f.2.next_long) in
+    let matches : take l.servers (drop (14 + l.servers) (memory_of l s r)) ≡ s.matches =
+    rw (at_matches l n s r f) (take_at s.matches _ l.servers f.2.match_long) in
+    let cache : cache_in l.clients (drop (14 + 2 * l.servers) (memory_of l s r)) ≡ s.cache =
+    rw (at_cache l n s r f, ← f.3.cache_long) (cache_again s.cache _ f.3.cache_each) in
+    let log : log_in (length s.log) (log_part (memory_of l s r)) ≡ s.log =
+    ap (log_in (length s.log)) (log_back l n s r f)
+    ∙ log_again l.servers l.clients last_of_all s.log _ f.1.row f.1.entries in
+    let votes : bools l.servers (bits_of s.votes) ≡ s.votes = rw (← f.2.votes) (bits_again s.votes) in
+    let store : items_of (region_in (memory_of l s r)) ≡ s.store = ap items_of (region_back l n s r f) ∙ f.3.same in
     rw (
-      option-again (l .servers) (s .voted) (f .0 .voted),
-      option-again (l .servers) (s .leader) (f .0 .leader),
+      option_again l.servers s.voted f.0.voted,
+      option_again l.servers s.leader f.0.leader,
       log,
       store,
       nexts,
-      options-again (l .room + 2) (s .nexts) (f .2 .next-each),
+      options_again (l.room + 2) s.nexts f.2.next_each,
       matches,
-      bit-again (s .send),
+      bit_again s.send,
       votes,
       cache,
     ) refl
 
-pub limits-back : (can : ℕ → Bool) (l : Limits) (s : State) (r : List ℕ) → ((k : ℕ) → l .events-can k ≡ can k)
-    → limits-in can (memory-of l s r) ≡ l
-limits-back can l s r h =
-    ap (λ (c : ℕ → Bool). record { events-can = c; servers = l .servers; me = l .me; clients = l .clients; room = l .room })
-    (fun-ext (λ k. sym (h k)))
+pub limits_back : (can : ℕ → Bool) (l : Limits) (s : State) (r : List ℕ) → ((k : ℕ) → l.events_can k ≡ can k)
+    → limits_in can (memory_of l s r) ≡ l
+limits_back can l s r h =
+    ap (λ (c : ℕ → Bool). record { events_can = c; servers = l.servers; me = l.me; clients = l.clients; room = l.room })
+    (fun_ext (λ k. sym (h k)))

@@ -1,149 +1,143 @@
 -- The parts of a state as words: each is read back, has its length, and fits words.
-use mathlib.Core.Path.{_≡_, refl, ap, _∙_}
-use mathlib.Core.Bool.{Bool, true, false}
-use mathlib.Core.List.{List, [], _∷_, _++_, map}
-use Prim.Native.Nat.{ℕ, zero, suc, _+_, _*_, _-_, _/_, _%_, _^_, _≤_, _<_}
-use lib.Dec.{eqb}
-use lib.ListN.{length, getD, take, drop, replicate}
-use native.Mathlib.Omega.{arith}
-use native.Mathlib.Nat.{pow-suc, pow-zero}
-use Rattle·std.proofs.shelf.Tests.{ne-eqb}
-use Rattle·std.proofs.shelf.Lists.{append-assoc, drop-at, take-at, take-all, length-append}
-use Rattle·servers.specs.Store.{Reply}
-use Rattle·servers.specs.Server.{Cached}
-use Rattle·texts.specs.Words.{All, word, perhaps-words, perhaps-in}
-use Rattle·memory·specs.Words.{
-  option-word,
-  option-in,
+use Rattle.std.proofs.Common.{◌≡◌, ℕ, zero, suc, ◌+◌, ◌-◌, ◌*◌, ◌/◌, ◌%◌, ◌^◌, ◌<◌, ◌≤◌, Bool, true, false, eqb, List, [], ◌∷◌, ◌++◌, map, length, get_or, take, drop, replicate, refl, ap, ◌∙◌, pow-suc, arith}
+use native.Mathlib.Nat.{pow-zero}
+use Rattle.std.proofs.lemmas.Bool.{ne_eqb}
+use Rattle.std.proofs.lemmas.List.{append_assoc, drop_at, take_at, take_all, length-append}
+use Rattle.servers.specs.Store.{Reply}
+use Rattle.servers.specs.Server.{Cached}
+use Rattle.texts.specs.Words.{All, word, perhaps_words, perhaps_in}
+use Rattle.memory.specs.Words.{
+  option_word,
+  option_in,
   bit,
-  bits-of,
+  bits_of,
   bools,
-  cached-words,
-  cached-in,
-  cache-words,
-  cache-in,
-  Good-cached,
-  One-below,
+  cached_words,
+  cached_in,
+  cache_words,
+  cache_in,
+  GoodCached,
+  OneBelow,
 }
-use Rattle·memory·proofs.Each.{Word, all-append}
-use Rattle·texts.proofs.Cells.{length-perhaps-words, perhaps-back, perhaps-fits}
+use Rattle.memory.proofs.Each.{Word, all_append}
+use Rattle.texts.proofs.Cells.{length_perhaps_words, perhaps_back, perhaps_fits}
 
 -- options
-pub option-again : (n : ℕ) (v : List ℕ) → One-below n v → option-in (option-word v) ≡ v
-option-again n [] h = refl
-option-again n (x ∷ xs) h =
+pub option_again : (n : ℕ) (v : List ℕ) → OneBelow n v → option_in (option_word v) ≡ v
+option_again n [] h = refl
+option_again n (x ∷ xs) h =
     let z : x + 1 - 1 ≡ x = omega arith in
-    let w : eqb (x + 1) 0 ≡ false = ne-eqb (x + 1) 0 (λ q. omega arith) in
-    rw (w, z, h .1) refl
+    let w : eqb (x + 1) 0 ≡ false = ne_eqb (x + 1) 0 (λ q. omega arith) in
+    rw (w, z, h.1) refl
 
-pub options-again : (n : ℕ) (vs : List (List ℕ)) → All (One-below n) vs → map option-in (map option-word vs) ≡ vs
-options-again n [] h = refl
-options-again n (v ∷ vs) h = rw (option-again n v (h .0), options-again n vs (h .1)) refl
+pub options_again : (n : ℕ) (vs : List (List ℕ)) → All (OneBelow n) vs → map option_in (map option_word vs) ≡ vs
+options_again n [] h = refl
+options_again n (v ∷ vs) h = rw (option_again n v h.0, options_again n vs h.1) refl
 
-pub option-low : (n : ℕ) (v : List ℕ) → n < word → One-below n v → Word (option-word v)
-option-low n [] h o = omega arith
-option-low n (x ∷ xs) h o = let p = o .0 in omega arith
+pub option_low : (n : ℕ) (v : List ℕ) → n < word → OneBelow n v → Word (option_word v)
+option_low n [] h o = omega arith
+option_low n (x ∷ xs) h o = let p = o.0 in omega arith
 
-pub options-low : (n : ℕ) (vs : List (List ℕ)) → n < word → All (One-below n) vs → All Word (map option-word vs)
-options-low n [] h o = tt
-options-low n (v ∷ vs) h o = (option-low n v h (o .0), options-low n vs h (o .1))
+pub options_low : (n : ℕ) (vs : List (List ℕ)) → n < word → All (OneBelow n) vs → All Word (map option_word vs)
+options_low n [] h o = tt
+options_low n (v ∷ vs) h o = (option_low n v h o.0, options_low n vs h o.1)
 
 -- bits
-pub bit-again : (b : Bool) → eqb (bit b) 1 ≡ b
-bit-again true = refl
-bit-again false = refl
+pub bit_again : (b : Bool) → eqb (bit b) 1 ≡ b
+bit_again true = refl
+bit_again false = refl
 
-pub bit-low : (b : Bool) → Word (bit b)
-bit-low true = omega arith
-bit-low false = omega arith
+pub bit_low : (b : Bool) → Word (bit b)
+bit_low true = omega arith
+bit_low false = omega arith
 
-pub bits-again : (vs : List Bool) → bools (length vs) (bits-of vs) ≡ vs
-unfolding bools bits-of
-bits-again [] = refl
-bits-again (true ∷ vs) =
-    let m : (1 + 2 * bits-of vs) % 2 ≡ 1 = omega arith in
-    let d : (1 + 2 * bits-of vs) / 2 ≡ bits-of vs = omega arith in
-    rw (m, d, bits-again vs) refl
-bits-again (false ∷ vs) =
-    let m : (0 + 2 * bits-of vs) % 2 ≡ 0 = omega arith in
-    let d : (0 + 2 * bits-of vs) / 2 ≡ bits-of vs = omega arith in
-    rw (m, d, bits-again vs) refl
+pub bits_again : (vs : List Bool) → bools (length vs) (bits_of vs) ≡ vs
+unfolding bools bits_of
+bits_again [] = refl
+bits_again (true ∷ vs) =
+    let m : (1 + 2 * bits_of vs) % 2 ≡ 1 = omega arith in
+    let d : (1 + 2 * bits_of vs) / 2 ≡ bits_of vs = omega arith in
+    rw (m, d, bits_again vs) refl
+bits_again (false ∷ vs) =
+    let m : (0 + 2 * bits_of vs) % 2 ≡ 0 = omega arith in
+    let d : (0 + 2 * bits_of vs) / 2 ≡ bits_of vs = omega arith in
+    rw (m, d, bits_again vs) refl
 
-pub bits-below : (n : ℕ) (vs : List Bool) → length vs ≤ n → bits-of vs < 2 ^ n
-unfolding bits-of
-bits-below n [] h = let p = pow-pos n in omega arith
+pub bits_below : (n : ℕ) (vs : List Bool) → length vs ≤ n → bits_of vs < 2 ^ n
+unfolding bits_of
+bits_below n [] h = let p = pow_pos n in omega arith
   where
-    pow-pos : (n : ℕ) → 0 < 2 ^ n
-    pow-pos zero = let z = pow-zero 2 in omega arith
-    pow-pos (suc n) = let s = pow-suc 2 n in let ih = pow-pos n in omega arith
-bits-below zero (b ∷ vs) h = absurd (omega arith)
-bits-below (suc n) (true ∷ vs) h = let s = pow-suc 2 n in let ih = bits-below n vs (omega arith) in omega arith
-bits-below (suc n) (false ∷ vs) h = let s = pow-suc 2 n in let ih = bits-below n vs (omega arith) in omega arith
+    pow_pos : (n : ℕ) → 0 < 2 ^ n
+    pow_pos zero = let z = pow-zero 2 in omega arith
+    pow_pos (suc n) = let s = pow-suc 2 n in let ih = pow_pos n in omega arith
+bits_below zero (b ∷ vs) h = absurd (omega arith)
+bits_below (suc n) (true ∷ vs) h = let s = pow-suc 2 n in let ih = bits_below n vs (omega arith) in omega arith
+bits_below (suc n) (false ∷ vs) h = let s = pow-suc 2 n in let ih = bits_below n vs (omega arith) in omega arith
 
 -- sessions
-pub length-cached : (c : Cached) → length (cached-words c) ≡ 68
-unfolding cached-words
-length-cached c =
-    let a = length-append (perhaps-words 32 (c .reply .now)) (perhaps-words 32 (c .reply .old)) in
-    let d = length-perhaps-words 32 (c .reply .now) in
-    let e = length-perhaps-words 32 (c .reply .old) in
+pub length_cached : (c : Cached) → length (cached_words c) ≡ 68
+unfolding cached_words
+length_cached c =
+    let a = length-append (perhaps_words 32 c.reply.now) (perhaps_words 32 c.reply.old) in
+    let d = length_perhaps_words 32 c.reply.now in
+    let e = length_perhaps_words 32 c.reply.old in
     omega arith
 
-pub length-cache-words : (cs : List Cached) → length (cache-words cs) ≡ 68 * length cs
-unfolding cache-words
-length-cache-words [] = refl
-length-cache-words (c ∷ cs) =
-    let a = length-append (cached-words c) (cache-words cs) in
-    let b = length-cached c in
-    let d = length-cache-words cs in
+pub length_cache_words : (cs : List Cached) → length (cache_words cs) ≡ 68 * length cs
+unfolding cache_words
+length_cache_words [] = refl
+length_cache_words (c ∷ cs) =
+    let a = length-append (cached_words c) (cache_words cs) in
+    let b = length_cached c in
+    let d = length_cache_words cs in
     omega arith
 
 -- a reply of the words u and v
-abbrev cached-by : Cached → List ℕ → List ℕ → Cached
-cached-by c u v = record { there = eqb (bit (c .there)) 1; id = c .id; reply = record { now = perhaps-in u; old = perhaps-in v } }
+abbrev cached_by : Cached → List ℕ → List ℕ → Cached
+cached_by c u v = record { there = eqb (bit c.there) 1; id = c.id; reply = record { now = perhaps_in u; old = perhaps_in v } }
 
-cached-again : (c : Cached) → Good-cached c → cached-in (cached-words c) ≡ c
-unfolding cached-words cached-in
-cached-again c g =
-    let u : List ℕ = perhaps-words 32 (c .reply .now) in
-    let v : List ℕ = perhaps-words 32 (c .reply .old) in
-    let n = length-perhaps-words 32 (c .reply .now) in
-    let o = length-perhaps-words 32 (c .reply .old) in
-    let a : take 33 (u ++ v) ≡ u = take-at u v 33 n in
-    let d : take 33 (drop 33 (u ++ v)) ≡ v = rw (drop-at u v 33 n) (take-all 33 v (omega arith)) in
-    ap (λ (z : List ℕ). cached-by c z (take 33 (drop 33 (u ++ v)))) a
-    ∙ (ap (λ (z : List ℕ). cached-by c u z) d
-    ∙ rw (bit-again (c .there), perhaps-back 32 (c .reply .now) (g .now), perhaps-back 32 (c .reply .old) (g .old)) refl)
+cached_again : (c : Cached) → GoodCached c → cached_in (cached_words c) ≡ c
+unfolding cached_words cached_in
+cached_again c g =
+    let u : List ℕ = perhaps_words 32 c.reply.now in
+    let v : List ℕ = perhaps_words 32 c.reply.old in
+    let n = length_perhaps_words 32 c.reply.now in
+    let o = length_perhaps_words 32 c.reply.old in
+    let a : take 33 (u ++ v) ≡ u = take_at u v 33 n in
+    let d : take 33 (drop 33 (u ++ v)) ≡ v = rw (drop_at u v 33 n) (take_all 33 v (omega arith)) in
+    ap (λ (z : List ℕ). cached_by c z (take 33 (drop 33 (u ++ v)))) a
+    ∙ (ap (λ (z : List ℕ). cached_by c u z) d
+    ∙ rw (bit_again c.there, perhaps_back 32 c.reply.now g.now, perhaps_back 32 c.reply.old g.old) refl)
 
-pub cache-again : (cs : List Cached) (more : List ℕ) → All Good-cached cs → cache-in (length cs) (cache-words cs ++ more) ≡ cs
-unfolding cache-words cache-in
-cache-again [] more g = refl
-cache-again (c ∷ cs) more g =
-    let a = append-assoc (cached-words c) (cache-words cs) more in
-    let t = take-at (cached-words c) (cache-words cs ++ more) 68 (length-cached c) in
-    let d = drop-at (cached-words c) (cache-words cs ++ more) 68 (length-cached c) in
-    rw (a, t, d, cached-again c (g .0), cache-again cs more (g .1)) refl
+pub cache_again : (cs : List Cached) (more : List ℕ) → All GoodCached cs → cache_in (length cs) (cache_words cs ++ more) ≡ cs
+unfolding cache_words cache_in
+cache_again [] more g = refl
+cache_again (c ∷ cs) more g =
+    let a = append_assoc (cached_words c) (cache_words cs) more in
+    let t = take_at (cached_words c) (cache_words cs ++ more) 68 (length_cached c) in
+    let d = drop_at (cached_words c) (cache_words cs ++ more) 68 (length_cached c) in
+    rw (a, t, d, cached_again c g.0, cache_again cs more g.1) refl
 
-pub cache-low : (cs : List Cached) → All Good-cached cs → All Word (cache-words cs)
-unfolding cache-words cached-words
-cache-low [] g = tt
-cache-low (c ∷ cs) g =
-    all-append Word (cached-words c) (cache-words cs) (
-      bit-low (c .there),
+pub cache_low : (cs : List Cached) → All GoodCached cs → All Word (cache_words cs)
+unfolding cache_words cached_words
+cache_low [] g = tt
+cache_low (c ∷ cs) g =
+    all_append Word (cached_words c) (cache_words cs) (
+      bit_low c.there,
       (
-        g .0 .id,
-        all-append Word (perhaps-words 32 (c .reply .now)) _
-            (perhaps-fits 32 (c .reply .now) (g .0 .now) (omega arith))
-            (perhaps-fits 32 (c .reply .old) (g .0 .old) (omega arith)),
+        g.0.id,
+        all_append Word (perhaps_words 32 c.reply.now) _
+            (perhaps_fits 32 c.reply.now g.0.now (omega arith))
+            (perhaps_fits 32 c.reply.old g.0.old (omega arith)),
       ),
     )
-    (cache-low cs (g .1))
+    (cache_low cs g.1)
 
 -- unused words, and match indices
-pub zeros-low : (n : ℕ) → All Word (replicate n 0)
-zeros-low zero = tt
-zeros-low (suc n) = (omega arith, zeros-low n)
+pub zeros_low : (n : ℕ) → All Word (replicate n 0)
+zeros_low zero = tt
+zeros_low (suc n) = (omega arith, zeros_low n)
 
-pub matches-low : (n : ℕ) (ms : List ℕ) → n < word → All (λ m. m ≤ n) ms → All Word ms
-matches-low n [] h a = tt
-matches-low n (m ∷ ms) h a = let p = a .0 in (omega arith, matches-low n ms h (a .1))
+pub matches_low : (n : ℕ) (ms : List ℕ) → n < word → All (λ m. m ≤ n) ms → All Word ms
+matches_low n [] h a = tt
+matches_low n (m ∷ ms) h a = let p = a.0 in (omega arith, matches_low n ms h a.1)

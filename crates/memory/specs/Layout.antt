@@ -10,81 +10,77 @@
 --   9     applied         10  length of the log
 --   11    role            12  votes, as bits              Words 5 to 10, sessions, log and store are kept over a restart;
 --   13    send                                            words 11 to 13, next and match index are set back.
-use mathlib.Core.Bool.{Bool, true, false}
-use mathlib.Core.List.{List, [], _∷_, _++_, map}
-use Prim.Native.Nat.{ℕ, zero, suc, _+_, _*_, _-_}
-use lib.Dec.{eqb}
-use lib.ListN.{length, getD, take, drop}
-use Rattle·servers.specs.Server.{Limits, State}
-use Rattle·log.specs.Rows.{log-region, log-in}
-use Rattle·store.specs.Region.{items-of}
-use Rattle·memory·specs.Words.{option-word, option-in, bit, bits-of, bools, cache-words, cache-in}
+use Rattle.std.specs.Prelude.{ℕ, zero, suc, ◌+◌, ◌-◌, ◌*◌, Bool, true, false, List, [], ◌∷◌, ◌++◌, map, length, take, drop, ◌==◌, slice_index}
+use Rattle.servers.specs.Server.{Limits, State}
+use Rattle.raft_log.specs.Rows.{log_region, log_in}
+use Rattle.store.specs.Region.{items_of}
+use Rattle.memory.specs.Words.{option_word, option_in, bit, bits_of, bools, cache_words, cache_in}
 
 -- what layout this is: the bytes `Kilvonz`, then the version 1
 abbrev pub mark : ℕ
 mark = 5433993681330665985
 
 -- the words after the head
-abbrev pub rest-of : Limits → State → List ℕ → List ℕ
-rest-of l s r = map option-word (s .nexts) ++ (s .matches ++ (cache-words (s .cache) ++ (log-region (l .room) (s .log) ++ r)))
+abbrev pub rest_of : Limits → State → List ℕ → List ℕ
+rest_of l s r = map option_word s.nexts ++ (s.matches ++ (cache_words s.cache ++ (log_region l.room s.log ++ r)))
 
 -- the memory; the head is 14 single words, so that reading and writing one of them computes
-abbrev pub memory-of : Limits → State → List ℕ → List ℕ
-memory-of l s r =
-    mark ∷ (l .servers ∷ (l .me ∷ (l .clients ∷ (l .room ∷
-    (s .term ∷ (option-word (s .voted) ∷ (option-word (s .leader) ∷ (s .commit ∷ (s .applied ∷ (length (s .log) ∷
-    (s .kind ∷ (bits-of (s .votes) ∷ (bit (s .send) ∷ rest-of l s r)))))))))))))
+abbrev pub memory_of : Limits → State → List ℕ → List ℕ
+memory_of l s r =
+    mark ∷ (l.servers ∷ (l.me ∷ (l.clients ∷ (l.room ∷
+    (s.term ∷ (option_word s.voted ∷ (option_word s.leader ∷ (s.commit ∷ (s.applied ∷ (length s.log ∷
+    (s.kind ∷ (bits_of s.votes ∷ (bit s.send ∷ rest_of l s r)))))))))))))
 
 -- and back. The limits: which events there are is not in the words, it goes with the program
-abbrev pub servers-in : List ℕ → ℕ
-servers-in m = getD m 1 0
+abbrev pub servers_in : List ℕ → ℕ
+servers_in m = slice_index m 1
 
-abbrev pub me-in : List ℕ → ℕ
-me-in m = getD m 2 0
+abbrev pub me_in : List ℕ → ℕ
+me_in m = slice_index m 2
 
-abbrev pub clients-in : List ℕ → ℕ
-clients-in m = getD m 3 0
+abbrev pub clients_in : List ℕ → ℕ
+clients_in m = slice_index m 3
 
-abbrev pub room-in : List ℕ → ℕ
-room-in m = getD m 4 0
+abbrev pub room_in : List ℕ → ℕ
+room_in m = slice_index m 4
 
-abbrev pub limits-in : (ℕ → Bool) → List ℕ → Limits
-limits-in can m = record { events-can = can; servers = servers-in m; me = me-in m; clients = clients-in m; room = room-in m }
+abbrev pub limits_in : (ℕ → Bool) → List ℕ → Limits
+limits_in can m = record { events_can = can; servers = servers_in m; me = me_in m; clients = clients_in m; room = room_in m }
 
 -- where the parts begin
-abbrev pub match-at : List ℕ → ℕ
-match-at m = 14 + servers-in m
+abbrev pub match_at : List ℕ → ℕ
+match_at m = 14 + servers_in m
 
-abbrev pub cache-at : List ℕ → ℕ
-cache-at m = 14 + 2 * servers-in m
+abbrev pub cache_at : List ℕ → ℕ
+cache_at m = 14 + 2 * servers_in m
 
-abbrev pub log-at : List ℕ → ℕ
-log-at m = 14 + 2 * servers-in m + 68 * clients-in m
+abbrev pub log_at : List ℕ → ℕ
+log_at m = 14 + 2 * servers_in m + 68 * clients_in m
 
-abbrev pub store-at : List ℕ → ℕ
-store-at m = 14 + 2 * servers-in m + 68 * clients-in m + 80 * room-in m
+abbrev pub store_at : List ℕ → ℕ
+store_at m = 14 + 2 * servers_in m + 68 * clients_in m + 80 * room_in m
 
 -- the log's words, and the store's
-abbrev pub log-part : List ℕ → List ℕ
-log-part m = take (80 * room-in m) (drop (log-at m) m)
+abbrev pub log_part : List ℕ → List ℕ
+log_part m = take (80 * room_in m) (drop (log_at m) m)
 
-abbrev pub region-in : List ℕ → List ℕ
-region-in m = drop (store-at m) m
+abbrev pub region_in : List ℕ → List ℕ
+region_in m = drop (store_at m) m
 
-abbrev pub state-in : List ℕ → State
-state-in m =
+abbrev pub state_in : List ℕ → State
+state_in m =
     record {
-      term = getD m 5 0;
-      voted = option-in (getD m 6 0);
-      leader = option-in (getD m 7 0);
-      log = log-in (getD m 10 0) (log-part m);
-      commit = getD m 8 0;
-      applied = getD m 9 0;
-      store = items-of (region-in m);
-      nexts = map option-in (take (servers-in m) (drop 14 m));
-      matches = take (servers-in m) (drop (match-at m) m);
-      send = eqb (getD m 13 0) 1;
-      votes = bools (servers-in m) (getD m 12 0);
-      kind = getD m 11 0;
-      cache = cache-in (clients-in m) (drop (cache-at m) m);
+      term = slice_index m 5;
+      voted = option_in (slice_index m 6);
+      leader = option_in (slice_index m 7);
+      log = log_in (slice_index m 10) (log_part m);
+      commit = slice_index m 8;
+      applied = slice_index m 9;
+      store = items_of (region_in m);
+      nexts = map option_in (take (servers_in m) (drop 14 m));
+      matches = take (servers_in m) (drop (match_at m) m);
+      send = (slice_index m 13 == 1);
+      votes = bools (servers_in m) (slice_index m 12);
+      kind = slice_index m 11;
+      cache = cache_in (clients_in m) (drop (cache_at m) m);
     }

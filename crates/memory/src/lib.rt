@@ -1,38 +1,38 @@
 // A server's memory: words that are a function of limits, state and the store's region, and what is promised of the program
 // over them. No code runs here; the functions carry theorems, so that the gate asks for them.
-ghost use Rattle·memory·specs.Program.{Each-right, Each-keeps, Each-enough, Fits-on, Server-stands};
+ghost use Rattle.memory.specs.Program.{EachRight, EachKeeps, EachEnough, FitsOn, ServerStands};
 
 // The program does what the definitions say, after any readable events, whatever kinds of event it takes.
 pub fn right_stands() -> u8
-    ensures { λ _. ⌜ Each-right ⌝ }
+    ensures { EachRight }
 {
     0
 }
 
 // Where it refuses, not a word of its memory changes.
 pub fn refusal_stands() -> u8
-    ensures { λ _. ⌜ Each-keeps ⌝ }
+    ensures { EachKeeps }
 {
     0
 }
 
 // Its memory is no longer than was said, and all its numbers are words of 64 bits.
 pub fn memory_stands() -> u8
-    ensures { λ _. ⌜ Each-enough ⌝ }
+    ensures { EachEnough }
 {
     0
 }
 
 // What the code relies on between events is kept by every readable event.
 pub fn fits_stands() -> u8
-    ensures { λ _. ⌜ Fits-on ⌝ }
+    ensures { FitsOn }
 {
     0
 }
 
 // All three of the server that runs.
 pub fn server_stands() -> u8
-    ensures { λ _. ⌜ Server-stands ⌝ }
+    ensures { ServerStands }
 {
     0
 }

@@ -1,10 +1,10 @@
 // Where the two halves meet: the program that runs does what the definitions say, and servers that do are together as if there
 // were one.
-ghost use Rattle·memory.specs.Program.{Server-as-if-one};
+ghost use Rattle.memory.specs.Program.{ServerAsIfOne};
 
 // Whatever happens to a group of these servers, the answers can be explained by one server doing one command at a time.
 pub fn server_is_linearizable() -> u8
-    ensures { λ _. ⌜ Server-as-if-one ⌝ }
+    ensures { ServerAsIfOne }
 {
     0
 }

@@ -1,62 +1,56 @@
 -- Counting who has an entry, and going down the log from its end.
-use mathlib.Core.Path.{_≡_, refl, _∙_}
-use mathlib.Core.Bool.{Bool, true, false, _&&_}
-use mathlib.Core.List.{List, [], _∷_}
-use Prim.Native.Nat.{ℕ, zero, suc, _+_, _-_, _*_, _/_, _≤_, _<_}
-use lib.Dec.{ltb, leb, eqb}
-use lib.ListN.{length, getD, take, drop}
-use native.Mathlib.Omega.{arith}
-use Rattle·std.proofs.shelf.Tests.{and-from, and-left, and-right, eq-eqb, lt-ltb, le-ltb, le-leb, lt-leb}
-use Rattle·std.proofs.shelf.Lists.{drop-more, drop-all}
-use Rattle·servers.specs.Store.{pick}
-use Rattle·servers.specs.Server.{Entry, Limits, State, nth, have-it, settled-to}
-use Rattle·log.specs.Rows.{log-in, row-in}
-use Rattle·log.specs.Places.{entry-in}
-use Rattle·log.proofs.Places.{log-in-more}
-use Rattle·servers.proofs.Tests.{pick-true, pick-false}
-use Rattle·state.proofs.PeerWords.{nth-is}
+use Rattle.std.proofs.Common.{◌≡◌, ℕ, zero, suc, ◌+◌, ◌-◌, ◌*◌, ◌/◌, ◌<◌, ◌≤◌, Bool, true, false, ◌&&◌, eqb, ltb, leb, List, [], ◌∷◌, length, get_or, take, drop, refl, ◌∙◌, arith}
+use Rattle.std.proofs.lemmas.Bool.{and_from, and_left, and_right, eq-eqb, lt-ltb, le-ltb, le-leb, lt-leb}
+use Rattle.std.proofs.lemmas.List.{drop_more, drop_all}
+use Rattle.servers.specs.Store.{pick}
+use Rattle.servers.specs.Server.{Entry, Limits, State, nth, have_it, settled_to}
+use Rattle.raft_log.specs.Rows.{log_in, row_in}
+use Rattle.raft_log.specs.Places.{entry_in}
+use Rattle.raft_log.proofs.Places.{log_in_more}
+use Rattle.servers.proofs.Tests.{pick_true, pick_false}
+use Rattle.state.proofs.PeerWords.{nth_is}
 
-have-more : (i j : ℕ) (ms : List ℕ) → j < length ms
-    → have-it i (drop j ms) ≡ pick (leb i (nth 0 ms j)) (suc (have-it i (drop (j + 1) ms))) (have-it i (drop (j + 1) ms))
-unfolding have-it
-have-more i j ms h = rw (nth-is 0 ms j, drop-more ms j 0 h) refl
+have_more : (i j : ℕ) (ms : List ℕ) → j < length ms
+    → have_it i (drop j ms) ≡ pick (leb i (nth 0 ms j)) (suc (have_it i (drop (j + 1) ms))) (have_it i (drop (j + 1) ms))
+unfolding have_it
+have_more i j ms h = rw (nth_is 0 ms j, drop_more ms j 0 h) refl
 
 -- the server j has it, or not
-pub have-yes : (i j : ℕ) (ms : List ℕ) → j < length ms → leb i (nth 0 ms j) ≡ true
-    → have-it i (drop j ms) ≡ suc (have-it i (drop (j + 1) ms))
-have-yes i j ms h y = have-more i j ms h ∙ pick-true _ _ _ y
+pub have_yes : (i j : ℕ) (ms : List ℕ) → j < length ms → leb i (nth 0 ms j) ≡ true
+    → have_it i (drop j ms) ≡ suc (have_it i (drop (j + 1) ms))
+have_yes i j ms h y = have_more i j ms h ∙ pick_true _ _ _ y
 
-pub have-no : (i j : ℕ) (ms : List ℕ) → j < length ms → leb i (nth 0 ms j) ≡ false
-    → have-it i (drop j ms) ≡ have-it i (drop (j + 1) ms)
-have-no i j ms h y = have-more i j ms h ∙ pick-false _ _ _ y
+pub have_no : (i j : ℕ) (ms : List ℕ) → j < length ms → leb i (nth 0 ms j) ≡ false
+    → have_it i (drop j ms) ≡ have_it i (drop (j + 1) ms)
+have_no i j ms h y = have_more i j ms h ∙ pick_false _ _ _ y
 
-pub have-none : (i n : ℕ) (ms : List ℕ) → length ms ≡ n → have-it i (drop n ms) ≡ 0
-unfolding have-it
-have-none i n ms h = rw (drop-all n ms (omega arith)) refl
+pub have_none : (i n : ℕ) (ms : List ℕ) → length ms ≡ n → have_it i (drop n ms) ≡ 0
+unfolding have_it
+have_none i n ms h = rw (drop_all n ms (omega arith)) refl
 
 -- what decides on the entry at i
 abbrev pub decides : Limits → State → List ℕ → ℕ → Bool
-decides l s ws i = (eqb (entry-in i ws .term) (s .term) && ltb (s .commit) i) && ltb (l .servers / 2) (have-it i (s .matches))
+decides l s ws i = (eqb (entry_in i ws).term s.term && ltb s.commit i) && ltb (l.servers / 2) (have_it i s.matches)
 
-settled-more : (l : Limits) (s : State) (ws : List ℕ) (i : ℕ) → 0 < i
-    → settled-to l s (log-in i ws) ≡ pick (decides l s ws i) i (settled-to l s (log-in (i - 1) ws))
-unfolding settled-to row-in
-settled-more l s ws i h = rw (log-in-more i ws h) refl
+settled_more : (l : Limits) (s : State) (ws : List ℕ) (i : ℕ) → 0 < i
+    → settled_to l s (log_in i ws) ≡ pick (decides l s ws i) i (settled_to l s (log_in (i - 1) ws))
+unfolding settled_to row_in
+settled_more l s ws i h = rw (log_in_more i ws h) refl
 
 -- settled there, or further down
-pub settled-yes : (l : Limits) (s : State) (ws : List ℕ) (i : ℕ) → eqb (entry-in i ws .term) (s .term) ≡ true → s .commit < i
-    → l .servers / 2 < have-it i (s .matches) → settled-to l s (log-in i ws) ≡ i
-settled-yes l s ws i e k h =
-    settled-more l s ws i (omega arith)
-    ∙ pick-true _ _ _ (and-from _ _ (and-from _ _ e (lt-ltb _ _ k)) (lt-ltb _ _ h))
+pub settled_yes : (l : Limits) (s : State) (ws : List ℕ) (i : ℕ) → eqb (entry_in i ws).term s.term ≡ true → s.commit < i
+    → l.servers / 2 < have_it i s.matches → settled_to l s (log_in i ws) ≡ i
+settled_yes l s ws i e k h =
+    settled_more l s ws i (omega arith)
+    ∙ pick_true _ _ _ (and_from _ _ (and_from _ _ e (lt-ltb _ _ k)) (lt-ltb _ _ h))
 
-pub settled-no : (l : Limits) (s : State) (ws : List ℕ) (i : ℕ) → 0 < i → decides l s ws i ≡ false
-    → settled-to l s (log-in i ws) ≡ settled-to l s (log-in (i - 1) ws)
-settled-no l s ws i k e = settled-more l s ws i k ∙ pick-false _ _ _ e
+pub settled_no : (l : Limits) (s : State) (ws : List ℕ) (i : ℕ) → 0 < i → decides l s ws i ≡ false
+    → settled_to l s (log_in i ws) ≡ settled_to l s (log_in (i - 1) ws)
+settled_no l s ws i k e = settled_more l s ws i k ∙ pick_false _ _ _ e
 
 -- or as far as it was
-pub settled-none : (l : Limits) (s : State) (ws : List ℕ) (i : ℕ) → i ≤ s .commit → settled-to l s (log-in i ws) ≡ s .commit
-unfolding settled-to log-in row-in
-settled-none l s ws zero k = refl
-settled-none l s ws (suc i) k =
-    pick-false _ _ _ (and-left _ _ (and-right _ _ (le-ltb (s .commit) (suc i) k))) ∙ settled-none l s ws i (omega arith)
+pub settled_none : (l : Limits) (s : State) (ws : List ℕ) (i : ℕ) → i ≤ s.commit → settled_to l s (log_in i ws) ≡ s.commit
+unfolding settled_to log_in row_in
+settled_none l s ws zero k = refl
+settled_none l s ws (suc i) k =
+    pick_false _ _ _ (and_left _ _ (and_right _ _ (le-ltb s.commit (suc i) k))) ∙ settled_none l s ws i (omega arith)

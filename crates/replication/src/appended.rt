@@ -1,16 +1,13 @@
 // Another server says whether it has entries up to an index. If it has, its match and next index go up; if it lacks what stands
 // before them, its next index goes down by one, to try again with more.
-ghost use mathlib.Core.Path.{_≡_};
-ghost use mathlib.Core.Bool.{Bool, true, false};
-ghost use Prim.Native.Nat.{ℕ, _+_, _-_, _<_, _≤_};
-ghost use lib.Dec.{ltb, eqb};
-ghost use Rattle·servers.specs.Server.{State, last-of-all, hears-appended};
-ghost use Rattle·memory.specs.Layout.{servers-in, room-in};
-ghost use Rattle·state.specs.Held.{Held, Becomes, limits-of, state-of};
-ghost use Rattle·replication·specs.Heard.{heard-from, has-state, lacks-state};
-use state::head;
+ghost use Rattle.std.specs.Prelude.{◌≡◌, ℕ, ◌+◌, ◌-◌, ◌<◌, ◌≤◌, Bool, true, false};
+ghost use Rattle.servers.specs.Server.{State, last_of_all, hears_appended};
+ghost use Rattle.memory.specs.Layout.{servers_in, room_in};
+ghost use Rattle.state.specs.Held.{Held, Becomes, limits_of, state_of};
+ghost use Rattle.replication.specs.Heard.{heard_from, has_state, lacks_state};
+
 use state::numbers::larger;
-use state::peers;
+use state::{head, peers};
 
 #[derive(Clone, Copy)]
 pub enum Heard {
@@ -23,7 +20,7 @@ pub enum Heard {
 }
 
 fn hear(own: u64, term: u64, index: u64, ok: bool) -> Heard
-    ensures { λ r. ⌜ r ≡ heard-from own term index ok ⌝ }
+    ensures { result ≡ heard_from own term index ok }
 {
     if own != term {
         return Heard::OtherTerm;
@@ -33,10 +30,10 @@ fn hear(own: u64, term: u64, index: u64, ok: bool) -> Heard
 
 // Both indices only go up.
 fn has(mem: &mut [u64], h: usize, index: u64)
-    requires held { ⌜ Held (now mem) ⌝ }
-    requires here { ⌜ h < servers-in (now mem) ⌝ }
-    requires low { ⌜ index ≤ room-in (now mem) ⌝ }
-    ensures { λ _. ⌜ Becomes (now (mem .entry)) (now (mem .exit)) (has-state (state-of (now (mem .entry))) h index) ⌝ }
+    requires held { Held mem.old }
+    requires here { h < servers_in mem.old }
+    requires low { index ≤ room_in mem.old }
+    ensures { Becomes mem.old mem.new (has_state (state_of mem.old) h index) }
 {
     let next = larger(peers::next_for(mem, h), index + 1);
     let known = larger(peers::match_of(mem, h), index);
@@ -45,21 +42,21 @@ fn has(mem: &mut [u64], h: usize, index: u64)
 }
 
 fn lacks(mem: &mut [u64], h: usize)
-    requires held { ⌜ Held (now mem) ⌝ }
-    requires here { ⌜ h < servers-in (now mem) ⌝ }
-    ensures { λ _. ⌜ Becomes (now (mem .entry)) (now (mem .exit)) (lacks-state (state-of (now (mem .entry))) h) ⌝ }
+    requires held { Held mem.old }
+    requires here { h < servers_in mem.old }
+    ensures { Becomes mem.old mem.new (lacks_state (state_of mem.old) h) }
 {
     let next = peers::next_for(mem, h);
     peers::set_next(mem, h, next.saturating_sub(1));
 }
 
 pub fn appended_comes(mem: &mut [u64], h: usize, term: u64, index: u64, ok: bool)
-    requires held { ⌜ Held (now mem) ⌝ }
-    requires here { ⌜ h < servers-in (now mem) ⌝ }
-    requires low { ⌜ term ≤ last-of-all ⌝ }
-    requires within { ⌜ index ≤ room-in (now mem) ⌝ }
-    ensures { λ _. ⌜ Becomes (now (mem .entry)) (now (mem .exit))
-        (hears-appended (state-of (now (mem .entry))) h term index ok) ⌝ }
+    requires held { Held mem.old }
+    requires here { h < servers_in mem.old }
+    requires low { term ≤ last_of_all }
+    requires within { index ≤ room_in mem.old }
+    ensures { Becomes mem.old mem.new
+        (hears_appended (state_of mem.old) h term index ok) }
 {
     let own = head::term(mem);
     match hear(own, term, index, ok) {

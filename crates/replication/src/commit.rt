@@ -1,13 +1,11 @@
 // A leader settles the furthest entry of its own term that more than half of the servers have, and with it all before.
-ghost use mathlib.Core.Path.{_≡_};
-ghost use mathlib.Core.Bool.{Bool, true, false};
-ghost use Prim.Native.Nat.{ℕ, _+_, _-_, _*_, _/_, _<_, _≤_};
-ghost use lib.Dec.{ltb, leb, eqb};
-ghost use Rattle·servers.specs.Server.{State, nth, settled-to, settles};
-ghost use Rattle·log.specs.Places.{entry-in};
-ghost use Rattle·memory.specs.Layout.{servers-in, room-in, log-part};
-ghost use Rattle·state.specs.Held.{Held, Becomes, limits-of, state-of};
-use log::find;
+ghost use Rattle.std.specs.Prelude.{◌≡◌, ℕ, ◌+◌, ◌-◌, ◌*◌, ◌/◌, ◌<◌, ◌≤◌, Bool, true, false, ◌==◌, nat_le, nat_lt};
+ghost use Rattle.servers.specs.Server.{State, nth, settled_to, settles};
+ghost use Rattle.raft_log.specs.Places.{entry_in};
+ghost use Rattle.memory.specs.Layout.{servers_in, room_in, log_part};
+ghost use Rattle.state.specs.Held.{Held, Becomes, limits_of, state_of};
+
+use raft_log::find;
 use state::head;
 use state::limits::servers;
 use state::parts::log_part;
@@ -15,34 +13,34 @@ use state::peers::match_of;
 
 // Whether a server is known to have the log up to an index.
 fn has(mem: &[u64], h: usize, index: usize) -> bool
-    requires held { ⌜ Held (now mem) ⌝ }
-    requires here { ⌜ h < servers-in (now mem) ⌝ }
-    ensures { λ r. ⌜ r ≡ leb index (nth 0 (state-of (now (mem .entry)) .matches) h) ⌝ }
+    requires held { Held mem.now }
+    requires here { h < servers_in mem.now }
+    ensures { result ≡ nat_le index (nth 0 (state_of mem.now).matches h) }
 {
     index as u64 <= match_of(mem, h)
 }
 
 // Whether so many servers are more than half.
 fn is_enough(have: usize, servers: usize) -> bool
-    ensures { λ r. ⌜ r ≡ ltb (servers / 2) have ⌝ }
+    ensures { result ≡ nat_lt (servers / 2) have }
 {
     have > servers / 2
 }
 
 // Whether an entry is of a term.
 fn is_of(mem: &[u64], index: usize, term: u64) -> bool
-    requires held { ⌜ Held (now mem) ⌝ }
-    requires some { ⌜ 0 < index ⌝ }
-    requires there { ⌜ index ≤ room-in (now mem) ⌝ }
-    ensures { λ r. ⌜ r ≡ eqb (entry-in index (log-part (now (mem .entry))) .term) term ⌝ }
+    requires held { Held mem.now }
+    requires some { 0 < index }
+    requires there { index ≤ room_in mem.now }
+    ensures { result ≡ ((entry_in index (log_part mem.now)).term == term) }
 {
     find::term(log_part(mem), index) == term
 }
 
 // Goes from the end of the log down to what is settled already, and no further.
 pub fn settled_to(mem: &[u64]) -> u64
-    requires held { ⌜ Held (now mem) ⌝ }
-    ensures { λ r. ⌜ r ≡ settled-to (limits-of (now (mem .entry))) (state-of (now (mem .entry))) (state-of (now (mem .entry)) .log) ⌝ }
+    requires held { Held mem.now }
+    ensures { result ≡ settled_to (limits_of mem.now) (state_of mem.now) (state_of mem.now).log }
 {
     let servers = servers(mem);
     let term = head::term(mem);
@@ -68,9 +66,9 @@ pub fn settled_to(mem: &[u64]) -> u64
 }
 
 pub fn settle(mem: &mut [u64])
-    requires held { ⌜ Held (now mem) ⌝ }
-    ensures { λ _. ⌜ Becomes (now (mem .entry)) (now (mem .exit))
-        (settles (limits-of (now (mem .entry))) (state-of (now (mem .entry)))) ⌝ }
+    requires held { Held mem.old }
+    ensures { Becomes mem.old mem.new
+        (settles (limits_of mem.old) (state_of mem.old)) }
 {
     let leads = head::is_leader(mem);
     if leads {

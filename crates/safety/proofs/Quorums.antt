@@ -1,14 +1,8 @@
--- Quorums: more than half of the servers. All that the proof uses of them is that any two meet (`quorums-meet`), and that a server
--- which counts votes or matches by the definitions has one (`quorum-of-votes`, `quorum-of-matches`).
-use mathlib.Core.Path.{_≡_, refl, ap, _∙_}
-use mathlib.Core.Bool.{Bool, true, false}
-use mathlib.Core.List.{List, [], _∷_}
-use Prim.Native.Nat.{ℕ, zero, suc, _+_, _/_, _≤_, _<_}
-use native.Mathlib.Omega.{arith}
-use lib.Dec.{leb}
-use lib.ListN.{length}
-use Rattle·servers.specs.Server.{nth, count, have-it}
-use Rattle·std.proofs.shelf.Ways.{tells}
+-- Quorums: more than half of the servers. All that the proof uses of them is that any two meet (`quorums_meet`), and that a server
+-- which counts votes or matches by the definitions has one (`quorum_of_votes`, `quorum_of_matches`).
+use Rattle.std.proofs.Common.{◌≡◌, ℕ, zero, suc, ◌+◌, ◌/◌, ◌<◌, ◌≤◌, Bool, true, false, leb, List, [], ◌∷◌, length, refl, ap, ◌∙◌, arith}
+use Rattle.servers.specs.Server.{nth, count, have_it}
+use Rattle.std.proofs.lemmas.Bool.Decides.{nat_tests}
 
 -- c of n servers are a quorum
 abbrev pub Most : ℕ → ℕ → Type 0
@@ -22,8 +16,8 @@ pub record Quorum (n : ℕ) (P : ℕ → Type 0) : Type 0 where
   pub each : (v : ℕ) → nth false members v ≡ true → P v
 
 -- what holds of each member may be weakened
-pub quorum-map : {n : ℕ} (P Q : ℕ → Type 0) → ((v : ℕ) → P v → Q v) → Quorum n P → Quorum n Q
-quorum-map P Q f q = record { members = q .members; size = q .size; most = q .most; each = λ v h. f v (q .each v h) }
+pub quorum_map : {n : ℕ} (P Q : ℕ → Type 0) → ((v : ℕ) → P v → Q v) → Quorum n P → Quorum n Q
+quorum_map P Q f q = record { members = q.members; size = q.size; most = q.most; each = λ v h. f v (q.each v h) }
 
 -- two tables of one length with more marks than places have a place marked in both
 abbrev Common : List Bool → List Bool → Type 0
@@ -31,60 +25,60 @@ Common xs ys = (v : ℕ) × (nth false xs v ≡ true) × (nth false ys v ≡ tru
 
 later : (a b : Bool) (xs ys : List Bool) → Common xs ys → Common (a ∷ xs) (b ∷ ys)
 unfolding nth
-later a b xs ys m = (suc (m .0), m .1, m .2)
+later a b xs ys m = (suc m.0, m.1, m.2)
 
-marks-meet : (xs ys : List Bool) → length xs ≡ length ys → length xs < count xs + count ys → Common xs ys
+marks_meet : (xs ys : List Bool) → length xs ≡ length ys → length xs < count xs + count ys → Common xs ys
 unfolding nth count
-marks-meet [] [] h k = absurd (omega arith)
-marks-meet [] (b ∷ ys) h k = absurd (omega arith)
-marks-meet (a ∷ xs) [] h k = absurd (omega arith)
-marks-meet (true ∷ xs) (true ∷ ys) h k = (0, refl, refl)
-marks-meet (true ∷ xs) (false ∷ ys) h k = later true false xs ys (marks-meet xs ys (omega arith) (omega arith))
-marks-meet (false ∷ xs) (true ∷ ys) h k = later false true xs ys (marks-meet xs ys (omega arith) (omega arith))
-marks-meet (false ∷ xs) (false ∷ ys) h k = later false false xs ys (marks-meet xs ys (omega arith) (omega arith))
+marks_meet [] [] h k = absurd (omega arith)
+marks_meet [] (b ∷ ys) h k = absurd (omega arith)
+marks_meet (a ∷ xs) [] h k = absurd (omega arith)
+marks_meet (true ∷ xs) (true ∷ ys) h k = (0, refl, refl)
+marks_meet (true ∷ xs) (false ∷ ys) h k = later true false xs ys (marks_meet xs ys (omega arith) (omega arith))
+marks_meet (false ∷ xs) (true ∷ ys) h k = later false true xs ys (marks_meet xs ys (omega arith) (omega arith))
+marks_meet (false ∷ xs) (false ∷ ys) h k = later false false xs ys (marks_meet xs ys (omega arith) (omega arith))
 
 -- any two quorums have a server in common
-pub quorums-meet : {n : ℕ} (P Q : ℕ → Type 0) → Quorum n P → Quorum n Q → (v : ℕ) × P v × Q v
-quorums-meet P Q a b =
-    let size-a = a .size in
-    let size-b = b .size in
-    let most-a = a .most in
-    let most-b = b .most in
-    let m = marks-meet (a .members) (b .members) (omega arith) (omega arith) in
-    (m .0, a .each (m .0) (m .1), b .each (m .0) (m .2))
+pub quorums_meet : {n : ℕ} (P Q : ℕ → Type 0) → Quorum n P → Quorum n Q → (v : ℕ) × P v × Q v
+quorums_meet P Q a b =
+    let size_a = a.size in
+    let size_b = b.size in
+    let most_a = a.most in
+    let most_b = b.most in
+    let m = marks_meet a.members b.members (omega arith) (omega arith) in
+    (m.0, a.each m.0 m.1, b.each m.0 m.2)
 
 -- votes: the marks are the members
-pub quorum-of-votes : {n : ℕ} (P : ℕ → Type 0) (votes : List Bool) → length votes ≡ n → Most n (count votes)
+pub quorum_of_votes : {n : ℕ} (P : ℕ → Type 0) (votes : List Bool) → length votes ≡ n → Most n (count votes)
     → ((v : ℕ) → nth false votes v ≡ true → P v) → Quorum n P
-quorum-of-votes P votes size most each = record { members = votes; size = size; most = most; each = each }
+quorum_of_votes P votes size most each = record { members = votes; size = size; most = most; each = each }
 
 -- matches: the members are those that reach the index
 reached : ℕ → List ℕ → List Bool
 reached i [] = []
 reached i (m ∷ ms) = leb i m ∷ reached i ms
 
-reached-size : (i : ℕ) (ms : List ℕ) → length (reached i ms) ≡ length ms
+reached_size : (i : ℕ) (ms : List ℕ) → length (reached i ms) ≡ length ms
 unfolding reached
-reached-size i [] = refl
-reached-size i (m ∷ ms) = ap suc (reached-size i ms)
+reached_size i [] = refl
+reached_size i (m ∷ ms) = ap suc (reached_size i ms)
 
-reached-count : (i : ℕ) (ms : List ℕ) → count (reached i ms) ≡ have-it i ms
-unfolding reached count have-it
-reached-count i [] = refl
-reached-count i (m ∷ ms) = let ih = reached-count i ms in grind (arith, tells)
+reached_count : (i : ℕ) (ms : List ℕ) → count (reached i ms) ≡ have_it i ms
+unfolding reached count have_it
+reached_count i [] = refl
+reached_count i (m ∷ ms) = let ih = reached_count i ms in grind (arith, nat_tests)
 
-reached-at : (i : ℕ) (ms : List ℕ) (v : ℕ) → nth false (reached i ms) v ≡ true → i ≤ nth 0 ms v
+reached_at : (i : ℕ) (ms : List ℕ) (v : ℕ) → nth false (reached i ms) v ≡ true → i ≤ nth 0 ms v
 unfolding reached nth
-reached-at i [] v h = let z : _≡_ {A = ℕ} 0 1 = cc in omega arith
-reached-at i (m ∷ ms) zero h = grind (arith, tells)
-reached-at i (m ∷ ms) (suc v) h = reached-at i ms v h
+reached_at i [] v h = let z : ◌≡◌ {A = ℕ} 0 1 = cc in omega arith
+reached_at i (m ∷ ms) zero h = grind (arith, nat_tests)
+reached_at i (m ∷ ms) (suc v) h = reached_at i ms v h
 
-pub quorum-of-matches : {n : ℕ} (P : ℕ → Type 0) (i : ℕ) (matches : List ℕ) → length matches ≡ n → Most n (have-it i matches)
+pub quorum_of_matches : {n : ℕ} (P : ℕ → Type 0) (i : ℕ) (matches : List ℕ) → length matches ≡ n → Most n (have_it i matches)
     → ((v : ℕ) → i ≤ nth 0 matches v → P v) → Quorum n P
-quorum-of-matches P i matches size most each =
+quorum_of_matches P i matches size most each =
     record {
       members = reached i matches;
-      size = reached-size i matches ∙ size;
-      most = rw reached-count most;
-      each = λ v h. each v (reached-at i matches v h);
+      size = reached_size i matches ∙ size;
+      most = rw reached_count most;
+      each = λ v h. each v (reached_at i matches v h);
     }

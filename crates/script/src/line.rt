@@ -1,14 +1,9 @@
 // What one line of a world says, or what was expected where it can't be read.
-ghost use Prim.Native.Nat.{ℕ, _≤_};
-ghost use lib.ListN.{length};
-ghost use Rattle·std.specs.Results.{Cases};
-use crate::text::push_hex;
-use crate::text::push_text;
-use crate::words::Word;
-use crate::words::next;
-use crate::words::number;
-use std::alloc::AllocError;
-use std::alloc::Refused;
+ghost use Rattle.std.specs.Prelude.{ℕ, ◌≤◌, length, IfOk};
+
+use crate::text::{push_hex, push_text};
+use crate::words::{Word, next, number};
+use std::alloc::{AllocError, AllocFailed};
 
 // What happens; the bytes of what a client asks, and of bytes that are no event, are handed over beside it.
 #[derive(Clone, Copy, PartialEq, Eq, Debug)]
@@ -46,22 +41,22 @@ pub enum Fault {
     NoMemory,
 }
 
-pub impl From<AllocError> for Fault as FaultFromAlloc {
+impl From<AllocError> for Fault {
     fn from(_: AllocError) -> Fault {
         Fault::NoMemory
     }
 }
 
-pub impl<T: Drop> From<Refused<T>> for Fault as FaultFromRefused {
-    fn from(_: Refused<T>) -> Fault {
+impl<T: Drop> From<AllocFailed<T>> for Fault {
+    fn from(_: AllocFailed<T>) -> Fault {
         Fault::NoMemory
     }
 }
 
 // A number in the next word, and the place after it.
 fn number_at(line: &[u8], at: usize, what: &'static str) -> Result<(u64, usize), Fault>
-    requires { ⌜ at ≤ length (now line) ⌝ }
-    ensures { λ r. ⌜ Cases r (λ v. v .1 ≤ length (now (line .entry))) (λ _. Unit {0}) ⌝ }
+    requires { at ≤ length line.now }
+    ensures { IfOk result (λ v. v.1 ≤ length line.now) }
 {
     let Word { from, to } = next(line, at);
     match number(&line[from..to]) {
@@ -72,7 +67,7 @@ fn number_at(line: &[u8], at: usize, what: &'static str) -> Result<(u64, usize),
 
 // That the line ends here.
 fn ended(line: &[u8], at: usize, said: Line) -> Result<Line, Fault>
-    requires { ⌜ at ≤ length (now line) ⌝ }
+    requires { at ≤ length line.now }
 {
     if next(line, at).is_none() {
         Ok(said)
@@ -83,8 +78,8 @@ fn ended(line: &[u8], at: usize, said: Line) -> Result<Line, Fault>
 
 // A text in the next word, as its length and its bytes at the end of `event`; the place after it.
 fn text_at(line: &[u8], at: usize, event: &mut Vec<u8>, what: &'static str) -> Result<usize, Fault>
-    requires { ⌜ at ≤ length (now line) ⌝ }
-    ensures { λ r. ⌜ Cases r (λ to. to ≤ length (now (line .entry))) (λ _. Unit {0}) ⌝ }
+    requires { at ≤ length line.now }
+    ensures { IfOk result (λ to. to ≤ length line.now) }
 {
     let Word { from, to } = next(line, at);
     let mut bytes = Vec::new(event.allocator());
@@ -98,8 +93,8 @@ fn text_at(line: &[u8], at: usize, event: &mut Vec<u8>, what: &'static str) -> R
 
 // A text or none in the next word.
 fn perhaps_at(line: &[u8], at: usize, event: &mut Vec<u8>) -> Result<usize, Fault>
-    requires { ⌜ at ≤ length (now line) ⌝ }
-    ensures { λ r. ⌜ Cases r (λ to. to ≤ length (now (line .entry))) (λ _. Unit {0}) ⌝ }
+    requires { at ≤ length line.now }
+    ensures { IfOk result (λ to. to ≤ length line.now) }
 {
     let Word { from, to } = next(line, at);
     if &line[from..to] == b"\\-" {
@@ -117,8 +112,8 @@ fn perhaps_at(line: &[u8], at: usize, event: &mut Vec<u8>) -> Result<usize, Faul
 
 // A command, as its bytes at the end of `event`; the place after it.
 fn command_at(line: &[u8], at: usize, event: &mut Vec<u8>) -> Result<usize, Fault>
-    requires { ⌜ at ≤ length (now line) ⌝ }
-    ensures { λ r. ⌜ Cases r (λ to. to ≤ length (now (line .entry))) (λ _. Unit {0}) ⌝ }
+    requires { at ≤ length line.now }
+    ensures { IfOk result (λ to. to ≤ length line.now) }
 {
     let Word { from, to } = next(line, at);
     let word = &line[from..to];
@@ -146,7 +141,7 @@ fn command_at(line: &[u8], at: usize, event: &mut Vec<u8>) -> Result<usize, Faul
 
 // What a client asks: client, number and command, as an event's bytes.
 fn ask_at(line: &[u8], at: usize, server: u64, event: &mut Vec<u8>) -> Result<Line, Fault>
-    requires { ⌜ at ≤ length (now line) ⌝ }
+    requires { at ≤ length line.now }
 {
     let (client, at) = number_at(line, at, "a client's number")?;
     let (id, at) = number_at(line, at, "the number of what it asks")?;
@@ -158,7 +153,7 @@ fn ask_at(line: &[u8], at: usize, server: u64, event: &mut Vec<u8>) -> Result<Li
 }
 
 fn bytes_at(line: &[u8], at: usize, server: u64, event: &mut Vec<u8>) -> Result<Line, Fault>
-    requires { ⌜ at ≤ length (now line) ⌝ }
+    requires { at ≤ length line.now }
 {
     let Word { from, to } = next(line, at);
     if !push_hex(event, &line[from..to])? {
@@ -169,7 +164,7 @@ fn bytes_at(line: &[u8], at: usize, server: u64, event: &mut Vec<u8>) -> Result<
 
 // What happens at a server.
 fn at_server(line: &[u8], at: usize, server: u64, event: &mut Vec<u8>) -> Result<Line, Fault>
-    requires { ⌜ at ≤ length (now line) ⌝ }
+    requires { at ≤ length line.now }
 {
     let Word { from, to } = next(line, at);
     let word = &line[from..to];
@@ -189,7 +184,7 @@ fn at_server(line: &[u8], at: usize, server: u64, event: &mut Vec<u8>) -> Result
 }
 
 fn group_at(line: &[u8], at: usize) -> Result<Line, Fault>
-    requires { ⌜ at ≤ length (now line) ⌝ }
+    requires { at ≤ length line.now }
 {
     let (servers, at) = number_at(line, at, "the number of servers")?;
     let (clients, at) = number_at(line, at, "the number of clients")?;

@@ -1,8 +1,5 @@
 // The words of a line, by their places: bytes between spaces.
-ghost use mathlib.Core.Path.{_≡_};
-ghost use mathlib.Core.Bool.{Bool};
-ghost use Prim.Native.Nat.{ℕ, _≤_};
-ghost use lib.ListN.{length};
+ghost use Rattle.std.specs.Prelude.{◌≡◌, ℕ, ◌≤◌, Bool, length};
 
 // Bytes from one place up to another; none where the line has no more words.
 #[derive(Clone, Copy, PartialEq, Eq, Debug)]
@@ -23,8 +20,8 @@ fn is_space(b: u8) -> bool {
 
 // The first place at or after this one where spaces begin, or end.
 fn skip(line: &[u8], at: usize, spaces: bool) -> usize
-    requires { ⌜ at ≤ length (now line) ⌝ }
-    ensures { λ r. ⌜ at ≤ r ⌝ ∗ ⌜ r ≤ length (now (line .entry)) ⌝ }
+    requires { at ≤ length line.now }
+    ensures { (at ≤ result) × (result ≤ length line.now) }
 {
     let mut i = at;
     while i < line.len() && is_space(line[i]) == spaces {
@@ -35,8 +32,8 @@ fn skip(line: &[u8], at: usize, spaces: bool) -> usize
 
 // The next word at or after a place.
 pub fn next(line: &[u8], at: usize) -> Word
-    requires { ⌜ at ≤ length (now line) ⌝ }
-    ensures { λ r. ⌜ at ≤ r .from ⌝ ∗ ⌜ r .from ≤ r .to ⌝ ∗ ⌜ r .to ≤ length (now (line .entry)) ⌝ }
+    requires { at ≤ length line.now }
+    ensures { (at ≤ result.from) × ((result.from ≤ result.to) × (result.to ≤ length line.now)) }
 {
     let from = skip(line, at, true);
     let to = skip(line, from, false);

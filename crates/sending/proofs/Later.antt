@@ -1,63 +1,60 @@
 -- Letters are written after commands were applied: they are those of the state before, since applying changes nothing that they say.
-use mathlib.Core.Path.{_≡_, refl, sym, ap, fun-ext, _∙_}
-use mathlib.Core.Bool.{false}
-use mathlib.Core.List.{List, [], _∷_}
-use Prim.Native.Nat.{ℕ}
-use lib.Dec.{eqb}
-use Rattle·servers.specs.Store.{Store}
-use Rattle·servers.specs.Server.{
+use Rattle.std.proofs.Common.{◌≡◌, ℕ, false, eqb, List, [], ◌∷◌, sym, refl, ap, ◌∙◌}
+use mathlib.Core.Path.{fun_ext}
+use Rattle.servers.specs.Store.{Store}
+use Rattle.servers.specs.Server.{
   Entry,
   Cached,
   Limits,
   State,
   Message,
   timeout,
-  is-new,
-  do-one,
-  do-all,
+  is_new,
+  do_one,
+  do_all,
   dues,
   wants,
-  with-done,
-  with-send,
+  with_done,
+  with_send,
   settles,
-  sent-now,
+  sent_now,
   finished,
-  to-others,
-  to-server,
-  first-letters,
+  to_others,
+  to_server,
+  first_letters,
 }
-use Rattle·servers.proofs.Tests.{pick-by}
-use Rattle·sending·specs.Letters.{asks}
+use Rattle.servers.proofs.Tests.{pick_by}
+use Rattle.sending.specs.Letters.{asks}
 
 -- what doing a command leaves as it is, doing all leaves
-pub after-doing :
-    {A : Type 0} (g : State → A) → ((d : Store) (c : List Cached) (s : State) → g (with-done d c s) ≡ g s) → (s : State) (es : List Entry)
-    → g (do-all s es) ≡ g s
-unfolding do-all
-after-doing g k s [] = refl
-after-doing g k s (e ∷ es) =
-    after-doing g k (do-one s e) es
-    ∙ pick-by (λ (x : State). g x ≡ g s) (is-new s e) _ s (λ q. k _ _ s) (λ q. refl)
+pub after_doing :
+    {A : Type 0} (g : State → A) → ((d : Store) (c : List Cached) (s : State) → g (with_done d c s) ≡ g s) → (s : State) (es : List Entry)
+    → g (do_all s es) ≡ g s
+unfolding do_all
+after_doing g k s [] = refl
+after_doing g k s (e ∷ es) =
+    after_doing g k (do_one s e) es
+    ∙ pick_by (λ (x : State). g x ≡ g s) (is_new s e) _ s (λ q. k _ _ s) (λ q. refl)
 
 -- a leader's entries
-sent-later : (s : State) (h : ℕ) → to-server (finished (sent-now s)) h ≡ to-server s h
-sent-later s h =
-    after-doing (λ (x : State). to-server x h) (λ d c x. refl) (sent-now s) (dues (sent-now s))
-    ∙ pick-by (λ (x : State). to-server x h ≡ to-server s h) (eqb (s .kind) 2) (with-send false s) s (λ q. refl) (λ q. refl)
+sent_later : (s : State) (h : ℕ) → to_server (finished (sent_now s)) h ≡ to_server s h
+sent_later s h =
+    after_doing (λ (x : State). to_server x h) (λ d c x. refl) (sent_now s) (dues (sent_now s))
+    ∙ pick_by (λ (x : State). to_server x h ≡ to_server s h) (eqb s.kind 2) (with_send false s) s (λ q. refl) (λ q. refl)
 
-pub entries-later :
-    (n m : ℕ) (s : State) → to-others n m (λ h. to-server (finished (sent-now s)) h) ≡ to-others n m (λ h. to-server s h)
-entries-later n m s = ap (to-others n m) (fun-ext (λ h. sent-later s h))
+pub entries_later :
+    (n m : ℕ) (s : State) → to_others n m (λ h. to_server (finished (sent_now s)) h) ≡ to_others n m (λ h. to_server s h)
+entries_later n m s = ap (to_others n m) (fun_ext (λ h. sent_later s h))
 
 -- a candidate's requests for votes
-pub asks-later :
-    (l : Limits) (s : State) → eqb (s .kind) 2 ≡ false
-    → to-others (l .servers) (l .me) (λ h. asks (finished (sent-now (settles l (wants l s))))) ≡ first-letters l s timeout
-asks-later l s k =
+pub asks_later :
+    (l : Limits) (s : State) → eqb s.kind 2 ≡ false
+    → to_others l.servers l.me (λ h. asks (finished (sent_now (settles l (wants l s))))) ≡ first_letters l s timeout
+asks_later l s k =
     let w : State = wants l s in
-    let e : asks (finished (sent-now (settles l w))) ≡ asks w = after-doing asks (λ d c x. refl) w (dues w) in
-    ap (λ (x : Message). to-others (l .servers) (l .me) (λ h. x)) e
-    ∙ sym (pick-false k)
+    let e : asks (finished (sent_now (settles l w))) ≡ asks w = after_doing asks (λ d c x. refl) w (dues w) in
+    ap (λ (x : Message). to_others l.servers l.me (λ h. x)) e
+    ∙ sym (pick_false k)
   where
-    pick-false : eqb (s .kind) 2 ≡ false → first-letters l s timeout ≡ to-others (l .servers) (l .me) (λ h. asks (wants l s))
-    pick-false k = rw k refl
+    pick_false : eqb s.kind 2 ≡ false → first_letters l s timeout ≡ to_others l.servers l.me (λ h. asks (wants l s))
+    pick_false k = rw k refl

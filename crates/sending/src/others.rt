@@ -1,16 +1,14 @@
 // What is sent to all other servers.
-ghost use mathlib.Core.Path.{_≡_};
-ghost use Prim.Native.Nat.{ℕ, _+_, _-_, _<_, _≤_};
-ghost use lib.ListN.{length};
-ghost use Rattle·servers.specs.Server.{Message, to-others};
-ghost use Rattle·wire.specs.Write.{write-letters};
-ghost use Rattle·wire_write.specs.Put.{Writes};
-ghost use Rattle·memory.specs.Layout.{servers-in, me-in};
-ghost use Rattle·state.specs.Held.{Held, state-of};
-ghost use Rattle·sending·specs.Letters.{post, asks-to-all, entries-to-all};
-ghost use Rattle·sending·specs.Others.{message-to, letters-to-all};
-use crate::letter::write_ask_letter;
-use crate::letter::write_entries_letter;
+ghost use Rattle.std.specs.Prelude.{◌≡◌, ℕ, ◌+◌, ◌-◌, ◌<◌, ◌≤◌, length};
+ghost use Rattle.servers.specs.Server.{Message, to_others};
+ghost use Rattle.wire.specs.Write.{write_letters};
+ghost use Rattle.wire_write.specs.Put.{Writes};
+ghost use Rattle.memory.specs.Layout.{servers_in, me_in};
+ghost use Rattle.state.specs.Held.{Held, state_of};
+ghost use Rattle.sending.specs.Letters.{post, asks_to_all, entries_to_all};
+ghost use Rattle.sending.specs.Others.{message_to, letters_to_all};
+
+use crate::letter::{write_ask_letter, write_entries_letter};
 use state::limits::limits;
 
 // Who stands asks for votes; who leads sends entries.
@@ -22,17 +20,17 @@ enum Sent {
 
 // How many others there are: so many letters go to all of them.
 pub fn others(mem: &[u64]) -> u64
-    requires held { ⌜ Held (now mem) ⌝ }
-    ensures { λ r. ⌜ ((f : ℕ → Message) → r ≡ length (to-others (servers-in (now (mem .entry))) (me-in (now (mem .entry))) f)) ⌝ }
+    requires held { Held mem.now }
+    ensures { (f : ℕ → Message) → result ≡ length (to_others (servers_in mem.now) (me_in mem.now) f) }
 {
     limits(mem).servers - 1
 }
 
 fn write_one(mem: &[u64], out: &mut [u8], at: usize, h: usize, sent: Sent) -> usize
-    requires held { ⌜ Held (now mem) ⌝ }
-    requires here { ⌜ h < servers-in (now mem) ⌝ }
-    requires room { ⌜ at + length (post h (message-to sent (state-of (now mem)) h)) ≤ length (now out) ⌝ }
-    ensures { λ r. ⌜ Writes at (post h (message-to sent (state-of (now (mem .entry))) h)) (now (out .entry)) (now (out .exit)) r ⌝ }
+    requires held { Held mem.now }
+    requires here { h < servers_in mem.now }
+    requires room { at + length (post h (message_to sent (state_of mem.now) h)) ≤ length out.old }
+    ensures { Writes at (post h (message_to sent (state_of mem.now) h)) out.old out.new result }
 {
     match sent {
         Sent::Ask => write_ask_letter(mem, out, at, h),
@@ -41,9 +39,9 @@ fn write_one(mem: &[u64], out: &mut [u8], at: usize, h: usize, sent: Sent) -> us
 }
 
 fn write_all(mem: &[u64], out: &mut [u8], at: usize, sent: Sent) -> usize
-    requires held { ⌜ Held (now mem) ⌝ }
-    requires room { ⌜ at + length (write-letters (letters-to-all sent (now mem))) ≤ length (now out) ⌝ }
-    ensures { λ r. ⌜ Writes at (write-letters (letters-to-all sent (now (mem .entry)))) (now (out .entry)) (now (out .exit)) r ⌝ }
+    requires held { Held mem.now }
+    requires room { at + length (write_letters (letters_to_all sent mem.now)) ≤ length out.old }
+    ensures { Writes at (write_letters (letters_to_all sent mem.now)) out.old out.new result }
 {
     let all = limits(mem);
     let mut next = at;
@@ -57,18 +55,18 @@ fn write_all(mem: &[u64], out: &mut [u8], at: usize, sent: Sent) -> usize
 
 // A candidate's letters, of the term that it stands in.
 pub fn ask_all(mem: &[u64], out: &mut [u8], at: usize) -> usize
-    requires held { ⌜ Held (now mem) ⌝ }
-    requires room { ⌜ at + length (write-letters (asks-to-all (now mem))) ≤ length (now out) ⌝ }
-    ensures { λ r. ⌜ Writes at (write-letters (asks-to-all (now (mem .entry)))) (now (out .entry)) (now (out .exit)) r ⌝ }
+    requires held { Held mem.now }
+    requires room { at + length (write_letters (asks_to_all mem.now)) ≤ length out.old }
+    ensures { Writes at (write_letters (asks_to_all mem.now)) out.old out.new result }
 {
     write_all(mem, out, at, Sent::Ask)
 }
 
 // A leader's.
 pub fn to_all(mem: &[u64], out: &mut [u8], at: usize) -> usize
-    requires held { ⌜ Held (now mem) ⌝ }
-    requires room { ⌜ at + length (write-letters (entries-to-all (now mem))) ≤ length (now out) ⌝ }
-    ensures { λ r. ⌜ Writes at (write-letters (entries-to-all (now (mem .entry)))) (now (out .entry)) (now (out .exit)) r ⌝ }
+    requires held { Held mem.now }
+    requires room { at + length (write_letters (entries_to_all mem.now)) ≤ length out.old }
+    ensures { Writes at (write_letters (entries_to_all mem.now)) out.old out.new result }
 {
     write_all(mem, out, at, Sent::Entries)
 }

@@ -1,14 +1,9 @@
 -- Bytes as a slice has them: that each is below 256 is known from the slice's type.
-use mathlib.Core.Path.{_≡_, refl}
-use mathlib.Core.Bool.{true}
-use mathlib.Core.List.{List, [], _∷_}
-use Prim.Native.Nat.{ℕ, suc, _<_}
-use lib.Dec.{ltb}
-use lib.ListN.{getD}
-use Rattle·std.proofs.shelf.Tests.{and-from, lt-ltb}
-use Rattle·servers.specs.Promise.{bytes, all-below}
+use Rattle.std.proofs.Common.{◌≡◌, ℕ, suc, ◌<◌, true, ltb, List, [], ◌∷◌, get_or, refl}
+use Rattle.std.proofs.lemmas.Bool.{and_from, lt-ltb}
+use Rattle.servers.specs.Promise.{bytes, all_below}
 
-pub are-bytes : (xs : List ℕ) → ((i : ℕ) → getD xs i 0 < 256) → bytes xs ≡ true
-unfolding all-below
-are-bytes [] h = refl
-are-bytes (x ∷ xs) h = and-from (ltb x 256) (bytes xs) (lt-ltb x 256 (h 0)) (are-bytes xs (λ i. h (suc i)))
+pub are_bytes : (xs : List ℕ) → ((i : ℕ) → get_or xs i 0 < 256) → bytes xs ≡ true
+unfolding all_below
+are_bytes [] h = refl
+are_bytes (x ∷ xs) h = and_from (ltb x 256) (bytes xs) (lt-ltb x 256 (h 0)) (are_bytes xs (λ i. h (suc i)))

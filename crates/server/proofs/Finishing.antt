@@ -1,140 +1,135 @@
 -- From the pieces that finish an event to the whole: settled, sent, applied; and what is told and sent is what the definitions say.
-use native.Mathlib.Omega.{arith}
-use mathlib.Core.Path.{_≡_, refl, sym, ap, subst, fun-ext, _∙_}
-use mathlib.Core.Bool.{Bool, true, false, _&&_}
-use mathlib.Core.List.{List, [], _∷_, _++_}
-use Prim.Native.Nat.{ℕ, _+_, _≤_}
-use lib.Dec.{eqb}
-use lib.ListN.{length}
-use Rattle·std.proofs.shelf.Lists.{length-append}
-use Rattle·servers.specs.Store.{pick}
-use Rattle·servers.specs.Server.{
+use Rattle.std.proofs.Common.{◌≡◌, ℕ, ◌+◌, ◌≤◌, Bool, true, false, ◌&&◌, eqb, List, [], ◌∷◌, ◌++◌, length, sym, refl, ap, ◌∙◌, subst, arith}
+use mathlib.Core.Path.{fun_ext}
+use Rattle.std.proofs.lemmas.List.{length-append}
+use Rattle.servers.specs.Store.{pick}
+use Rattle.servers.specs.Server.{
   Said,
   Letter,
   Message,
   Limits,
   State,
   does,
-  with-commit,
-  with-send,
-  settled-to,
+  with_commit,
+  with_send,
+  settled_to,
   settles,
-  sent-now,
-  sends-now,
+  sent_now,
+  sends_now,
   dues,
-  tell-all,
+  tell_all,
   finished,
-  after-all,
-  to-others,
-  to-server,
+  after_all,
+  to_others,
+  to_server,
 }
-use Rattle·wire.specs.Write.{write-number, write-saids, write-letters, write-answer}
-use Rattle·wire_write.proofs.Texts.{length-number}
-use Rattle·servers.proofs.Tests.{pick-by}
-use Rattle·memory.specs.Layout.{region-in}
-use Rattle·memory.specs.Program.{region-all}
-use Rattle·state.specs.Held.{limits-of, state-of, Turns, Becomes}
-use Rattle·sending.specs.Letters.{asks}
-use Rattle·sending.proofs.Later.{after-doing, entries-later}
-use Rattle·server·specs.Answered.{finish-answer, region-finished}
-use Rattle·server·specs.First.{first-of, entries-if, letters-of}
-use Rattle·server·specs.declared.first.First.{First}
-use Rattle·server·specs.declared.first.First.the-variants.{Nothing, Asks, Vote, Reply}
+use Rattle.wire.specs.Write.{write_number, write_saids, write_letters, write_answer}
+use Rattle.wire_write.proofs.Texts.{length_number}
+use Rattle.servers.proofs.Tests.{pick_by}
+use Rattle.memory.specs.Layout.{region_in}
+use Rattle.memory.specs.Program.{region_all}
+use Rattle.state.specs.Held.{limits_of, state_of, Turns, Becomes}
+use Rattle.sending.specs.Letters.{asks}
+use Rattle.sending.proofs.Later.{after_doing, entries_later}
+use Rattle.server.specs.Answered.{finish_answer, region_finished}
+use Rattle.server.specs.First.{first_of, entries_if, letters_of}
+use Rattle.server.specs.declared.first.First.{First}
+use Rattle.server.specs.declared.first.First.TheVariants.{Nothing, Asks, Vote, Reply}
 
 -- the state from which commands are done
 abbrev pub ready : List ℕ → State
-ready m = sent-now (settles (limits-of m) (state-of m))
+ready m = sent_now (settles (limits_of m) (state_of m))
 
 -- what the pieces did, one after the other
 pub record Pieces (m m₁ m₂ m₃ : List ℕ) (send : Bool) : Type 0 where
-  pub settled : Becomes m m₁ (settles (limits-of m) (state-of m))
-  pub sent : Becomes m₁ m₂ (sent-now (state-of m₁))
-  pub why : send ≡ (eqb (state-of m₁ .kind) 2 && state-of m₁ .send)
-  pub done : Turns m₂ m₃ (finished (state-of m₂)) (region-all (state-of m₂) (dues (state-of m₂)) (region-in m₂))
+  pub settled : Becomes m m₁ (settles (limits_of m) (state_of m))
+  pub sent : Becomes m₁ m₂ (sent_now (state_of m₁))
+  pub why : send ≡ (eqb (state_of m₁).kind 2 && (state_of m₁).send)
+  pub done : Turns m₂ m₃ (finished (state_of m₂)) (region_all (state_of m₂) (dues (state_of m₂)) (region_in m₂))
 
-second-state : (m m₁ m₂ m₃ : List ℕ) (b : Bool) → Pieces m m₁ m₂ m₃ b → state-of m₂ ≡ ready m
-second-state m m₁ m₂ m₃ b p = p .sent .state ∙ ap sent-now (p .settled .state)
+second_state : (m m₁ m₂ m₃ : List ℕ) (b : Bool) → Pieces m m₁ m₂ m₃ b → state_of m₂ ≡ ready m
+second_state m m₁ m₂ m₃ b p = p.sent.state ∙ ap sent_now p.settled.state
 
-pub pieces-turn : (m m₁ m₂ m₃ : List ℕ) (b : Bool) → Pieces m m₁ m₂ m₃ b
-    → Turns m m₃ (after-all (limits-of m) (state-of m)) (region-finished (limits-of m) (state-of m) (region-in m))
-pieces-turn m m₁ m₂ m₃ b p =
-    let e = second-state m m₁ m₂ m₃ b p in
+pub pieces_turn : (m m₁ m₂ m₃ : List ℕ) (b : Bool) → Pieces m m₁ m₂ m₃ b
+    → Turns m m₃ (after_all (limits_of m) (state_of m)) (region_finished (limits_of m) (state_of m) (region_in m))
+pieces_turn m m₁ m₂ m₃ b p =
+    let e = second_state m m₁ m₂ m₃ b p in
     record {
-      held = p .done .held;
-      state = p .done .state ∙ ap finished e;
-      limits = p .done .limits ∙ (p .sent .limits ∙ p .settled .limits);
+      held = p.done.held;
+      state = p.done.state ∙ ap finished e;
+      limits = p.done.limits ∙ (p.sent.limits ∙ p.settled.limits);
       region =
-          p .done .region
-          ∙ (ap (λ (z : State). region-all z (dues z) (region-in m₂)) e
-          ∙ ap (λ (z : List ℕ). region-all (ready m) (dues (ready m)) z) (p .sent .region ∙ p .settled .region));
+          p.done.region
+          ∙ (ap (λ (z : State). region_all z (dues z) (region_in m₂)) e
+          ∙ ap (λ (z : List ℕ). region_all (ready m) (dues (ready m)) z) (p.sent.region ∙ p.settled.region));
     }
 
 -- what is told
-pub pieces-tell : (m m₁ m₂ m₃ : List ℕ) (b : Bool) → Pieces m m₁ m₂ m₃ b
-    → tell-all (limits-of m₂) (state-of m₂) (dues (state-of m₂)) ≡ tell-all (limits-of m) (ready m) (dues (ready m))
-pieces-tell m m₁ m₂ m₃ b p =
-    ap (λ (l : Limits). tell-all l (state-of m₂) (dues (state-of m₂))) (p .sent .limits ∙ p .settled .limits)
-    ∙ ap (λ (z : State). tell-all (limits-of m) z (dues z)) (second-state m m₁ m₂ m₃ b p)
+pub pieces_tell : (m m₁ m₂ m₃ : List ℕ) (b : Bool) → Pieces m m₁ m₂ m₃ b
+    → tell_all (limits_of m₂) (state_of m₂) (dues (state_of m₂)) ≡ tell_all (limits_of m) (ready m) (dues (ready m))
+pieces_tell m m₁ m₂ m₃ b p =
+    ap (λ (l : Limits). tell_all l (state_of m₂) (dues (state_of m₂))) (p.sent.limits ∙ p.settled.limits)
+    ∙ ap (λ (z : State). tell_all (limits_of m) z (dues z)) (second_state m m₁ m₂ m₃ b p)
 
 -- a request for votes says nothing that settling, sending or doing changes
-asks-settled : (l : Limits) (s : State) → asks (settles l s) ≡ asks s
-asks-settled l s =
-    pick-by (λ (x : State). asks x ≡ asks s) (eqb (s .kind) 2) (with-commit (settled-to l s (s .log)) s) s (λ q. refl) (λ q. refl)
+asks_settled : (l : Limits) (s : State) → asks (settles l s) ≡ asks s
+asks_settled l s =
+    pick_by (λ (x : State). asks x ≡ asks s) (eqb s.kind 2) (with_commit (settled_to l s s.log) s) s (λ q. refl) (λ q. refl)
 
-asks-sent : (s : State) → asks (sent-now s) ≡ asks s
-asks-sent s = pick-by (λ (x : State). asks x ≡ asks s) (eqb (s .kind) 2) (with-send false s) s (λ q. refl) (λ q. refl)
+asks_sent : (s : State) → asks (sent_now s) ≡ asks s
+asks_sent s = pick_by (λ (x : State). asks x ≡ asks s) (eqb s.kind 2) (with_send false s) s (λ q. refl) (λ q. refl)
 
-asks-finished : (l : Limits) (s : State) → asks (after-all l s) ≡ asks s
-asks-finished l s =
-    let r : State = sent-now (settles l s) in
-    after-doing asks (λ d c x. refl) r (dues r) ∙ (asks-sent (settles l s) ∙ asks-settled l s)
+asks_finished : (l : Limits) (s : State) → asks (after_all l s) ≡ asks s
+asks_finished l s =
+    let r : State = sent_now (settles l s) in
+    after_doing asks (λ d c x. refl) r (dues r) ∙ (asks_sent (settles l s) ∙ asks_settled l s)
 
-first-finished : (l : Limits) (s : State) (x : First) → first-of l (after-all l s) x ≡ first-of l s x
-first-finished l s Nothing = refl
-first-finished l s Asks = ap (λ (z : Message). to-others (l .servers) (l .me) (λ h. z)) (asks-finished l s)
-first-finished l s (Vote h t ok) = refl
-first-finished l s (Reply h t i ok) = refl
+first_finished : (l : Limits) (s : State) (x : First) → first_of l (after_all l s) x ≡ first_of l s x
+first_finished l s Nothing = refl
+first_finished l s Asks = ap (λ (z : Message). to_others l.servers l.me (λ h. z)) (asks_finished l s)
+first_finished l s (Vote h t ok) = refl
+first_finished l s (Reply h t i ok) = refl
 
-entries-finished : (l : Limits) (s : State) (b : Bool) → entries-if b l (finished (sent-now s)) ≡ entries-if b l s
-entries-finished l s true = entries-later (l .servers) (l .me) s
-entries-finished l s false = refl
+entries_finished : (l : Limits) (s : State) (b : Bool) → entries_if b l (finished (sent_now s)) ≡ entries_if b l s
+entries_finished l s true = entries_later l.servers l.me s
+entries_finished l s false = refl
 
 -- what is sent
-pub pieces-send : (m m₁ m₂ m₃ : List ℕ) (b : Bool) (x : First) → Pieces m m₁ m₂ m₃ b
-    → letters-of b (limits-of m₃) (state-of m₃) x
-    ≡ first-of (limits-of m) (state-of m) x ++ sends-now (limits-of m) (settles (limits-of m) (state-of m))
-pieces-send m m₁ m₂ m₃ b x p =
-    let l : Limits = limits-of m in
-    let s : State = state-of m in
-    let t = pieces-turn m m₁ m₂ m₃ b p in
-    let why : b ≡ (eqb (settles l s .kind) 2 && settles l s .send) = p .why ∙ ap (λ (z : State). eqb (z .kind) 2 && z .send) (p .settled .state) in
-    ap (λ (k : Limits). letters-of b k (state-of m₃) x) (t .limits)
-    ∙ (ap (λ (z : State). letters-of b l z x) (t .state)
-    ∙ (ap (λ (z : List Letter). z ++ entries-if b l (after-all l s)) (first-finished l s x)
-    ∙ (ap (λ (z : List Letter). first-of l s x ++ z) (entries-finished l (settles l s) b)
-    ∙ ap (λ (z : Bool). first-of l s x ++ entries-if z l (settles l s)) why)))
+pub pieces_send : (m m₁ m₂ m₃ : List ℕ) (b : Bool) (x : First) → Pieces m m₁ m₂ m₃ b
+    → letters_of b (limits_of m₃) (state_of m₃) x
+    ≡ first_of (limits_of m) (state_of m) x ++ sends_now (limits_of m) (settles (limits_of m) (state_of m))
+pieces_send m m₁ m₂ m₃ b x p =
+    let l : Limits = limits_of m in
+    let s : State = state_of m in
+    let t = pieces_turn m m₁ m₂ m₃ b p in
+    let why : b ≡ (eqb (settles l s).kind 2 && (settles l s).send) = p.why ∙ ap (λ (z : State). eqb z.kind 2 && z.send) p.settled.state in
+    ap (λ (k : Limits). letters_of b k (state_of m₃) x) t.limits
+    ∙ (ap (λ (z : State). letters_of b l z x) t.state
+    ∙ (ap (λ (z : List Letter). z ++ entries_if b l (after_all l s)) (first_finished l s x)
+    ∙ (ap (λ (z : List Letter). first_of l s x ++ z) (entries_finished l (settles l s) b)
+    ∙ ap (λ (z : Bool). first_of l s x ++ entries_if z l (settles l s)) why)))
 
 -- the bytes of an answer, by its parts
-pub length-does : (ss : List Said) (ls : List Letter)
-    → length (write-answer (does ss ls)) ≡ 9 + length (write-saids ss) + 8 + length (write-letters ls)
-length-does ss ls =
-    let a = length-append (write-number (length ss)) (write-saids ss ++ (write-number (length ls) ++ write-letters ls)) in
-    let b = length-append (write-saids ss) (write-number (length ls) ++ write-letters ls) in
-    let c = length-append (write-number (length ls)) (write-letters ls) in
-    let n = length-number (length ss) in
-    let k = length-number (length ls) in
+pub length_does : (ss : List Said) (ls : List Letter)
+    → length (write_answer (does ss ls)) ≡ 9 + length (write_saids ss) + 8 + length (write_letters ls)
+length_does ss ls =
+    let a = length-append (write_number (length ss)) (write_saids ss ++ (write_number (length ls) ++ write_letters ls)) in
+    let b = length-append (write_saids ss) (write_number (length ls) ++ write_letters ls) in
+    let c = length-append (write_number (length ls)) (write_letters ls) in
+    let n = length_number (length ss) in
+    let k = length_number (length ls) in
     omega arith
 
 -- there is room for the letters after what is told
-pub letters-fit : (m m₁ m₂ m₃ : List ℕ) (b : Bool) (x : First) (n : ℕ) → Pieces m m₁ m₂ m₃ b
-    → length (write-answer (finish-answer (limits-of m) (state-of m) (first-of (limits-of m) (state-of m) x))) ≤ n
-    → 9 + length (write-saids (tell-all (limits-of m₂) (state-of m₂) (dues (state-of m₂)))) + 8
-    + length (write-letters (letters-of b (limits-of m₃) (state-of m₃) x)) ≤ n
-letters-fit m m₁ m₂ m₃ b x n p h =
-    let l : Limits = limits-of m in
-    let ls : List Letter = first-of l (state-of m) x ++ sends-now l (settles l (state-of m)) in
-    let ss : List Said = tell-all l (ready m) (dues (ready m)) in
-    let a = length-does ss ls in
-    let t = ap (λ (z : List Said). length (write-saids z)) (pieces-tell m m₁ m₂ m₃ b p) in
-    let s = ap (λ (z : List Letter). length (write-letters z)) (pieces-send m m₁ m₂ m₃ b x p) in
+pub letters_fit : (m m₁ m₂ m₃ : List ℕ) (b : Bool) (x : First) (n : ℕ) → Pieces m m₁ m₂ m₃ b
+    → length (write_answer (finish_answer (limits_of m) (state_of m) (first_of (limits_of m) (state_of m) x))) ≤ n
+    → 9 + length (write_saids (tell_all (limits_of m₂) (state_of m₂) (dues (state_of m₂)))) + 8
+    + length (write_letters (letters_of b (limits_of m₃) (state_of m₃) x)) ≤ n
+letters_fit m m₁ m₂ m₃ b x n p h =
+    let l : Limits = limits_of m in
+    let ls : List Letter = first_of l (state_of m) x ++ sends_now l (settles l (state_of m)) in
+    let ss : List Said = tell_all l (ready m) (dues (ready m)) in
+    let a = length_does ss ls in
+    let t = ap (λ (z : List Said). length (write_saids z)) (pieces_tell m m₁ m₂ m₃ b p) in
+    let s = ap (λ (z : List Letter). length (write_letters z)) (pieces_send m m₁ m₂ m₃ b x p) in
     omega arith

@@ -1,76 +1,71 @@
 -- What was written at the front of the bytes is their beginning, and an answer that stands there means itself.
-use native.Mathlib.Omega.{arith}
-use mathlib.Core.Path.{_≡_, refl, sym, ap, subst, _∙_}
-use mathlib.Core.Bool.{true}
-use mathlib.Core.List.{List, [], _∷_, _++_}
-use Prim.Native.Nat.{ℕ, _+_, _≤_}
-use lib.ListN.{length, take, drop}
-use Rattle·std.proofs.shelf.Lists.{append-nil, take-at, take-append-drop}
-use Rattle·servers.specs.Server as server
-use Rattle·servers.specs.Server.{Said, Letter, does}
-use Rattle·wire.specs.Answers.{fine-answer}
-use Rattle·wire.specs.Write.{write-answer, write-number, write-saids, write-letters}
-use Rattle·wire_write.specs.Answers.{answer-of, means-answer}
-use Rattle·wire_write.specs.Heads.{does-head}
-use Rattle·wire_write.specs.Put.{Writes}
-use Rattle·wire_write.specs.declared.answer.Answer.{Answer}
-use Rattle·wire_write.specs.declared.answer.Answer.the-variants.{Does}
-use Rattle·wire_write.proofs.Answering.{written-means}
-use Rattle·wire_write.proofs.Putting.{writes-as, writes-then, writes-before, length-put}
-use Rattle·server·specs.Answered.{Begins}
+use Rattle.std.proofs.Common.{◌≡◌, ℕ, ◌+◌, ◌≤◌, true, List, [], ◌∷◌, ◌++◌, length, take, drop, sym, refl, ap, ◌∙◌, subst, arith}
+use Rattle.std.proofs.lemmas.List.{append-nil, take_at, take-append-drop}
+use Rattle.servers.specs.Server as server
+use Rattle.servers.specs.Server.{Said, Letter, does}
+use Rattle.wire.specs.Answers.{fine_answer}
+use Rattle.wire.specs.Write.{write_answer, write_number, write_saids, write_letters}
+use Rattle.wire_write.specs.Answers.{answer_of, means_answer}
+use Rattle.wire_write.specs.Heads.{does_head}
+use Rattle.wire_write.specs.Put.{Writes}
+use Rattle.wire_write.specs.declared.answer.Answer.{Answer}
+use Rattle.wire_write.specs.declared.answer.Answer.TheVariants.{Does}
+use Rattle.wire_write.proofs.Answering.{written_means}
+use Rattle.wire_write.proofs.Putting.{writes_as, writes_then, writes_before, length_put}
+use Rattle.server.specs.Answered.{Begins}
 
 pub begins : {r : ℕ} {bs xs ys : List ℕ} → Writes 0 bs xs ys r → Begins bs xs ys
 begins {bs = bs} {xs = xs} {ys = ys} w =
-    let n = w .next in
-    let h = w .room in
-    let l = ap length (w .bytes) ∙ length-put 0 bs xs (omega arith) in
-    record { long = l; within = omega arith; front = ap (take (length bs)) (w .bytes) ∙ take-at bs (drop (0 + length bs) xs) (length bs) refl }
+    let n = w.next in
+    let h = w.room in
+    let l = ap length w.bytes ∙ length_put 0 bs xs (omega arith) in
+    record { long = l; within = omega arith; front = ap (take (length bs)) w.bytes ∙ take_at bs (drop (0 + length bs) xs) (length bs) refl }
 
 -- and more was written after the front
-pub means-itself : (a : server.Answer) (r : Answer) (xs ys : List ℕ) → fine-answer a ≡ true → Begins (write-answer a) xs ys
-    → r ≡ answer-of a → means-answer ys r ≡ a
-means-itself a r xs ys f b e =
-    let n : ℕ = length (write-answer a) in
-    let whole : write-answer a ++ drop n ys ≡ ys = ap (λ (z : List ℕ). z ++ drop n ys) (sym (b .front)) ∙ take-append-drop n ys in
-    ap (means-answer ys) e
-    ∙ (ap (λ (z : List ℕ). means-answer z (answer-of a)) (sym whole) ∙ written-means a (drop n ys) f)
+pub means_itself : (a : server.Answer) (r : Answer) (xs ys : List ℕ) → fine_answer a ≡ true → Begins (write_answer a) xs ys
+    → r ≡ answer_of a → means_answer ys r ≡ a
+means_itself a r xs ys f b e =
+    let n : ℕ = length (write_answer a) in
+    let whole : write_answer a ++ drop n ys ≡ ys = ap (λ (z : List ℕ). z ++ drop n ys) (sym b.front) ∙ take-append-drop n ys in
+    ap (means_answer ys) e
+    ∙ (ap (λ (z : List ℕ). means_answer z (answer_of a)) (sym whole) ∙ written_means a (drop n ys) f)
 
 -- what is told, letters with their number, and the head before both
-pub does-written : {a r k h : ℕ} {xs ys zs ws : List ℕ} (ss : List Said) (ls : List Letter) → k ≡ length ss
-    → Writes 9 (write-saids ss) xs ys a → Writes a (write-number (length ls) ++ write-letters ls) ys zs r → Writes 0 (does-head k) zs ws h
-    → h ≡ 9 → Writes 0 (write-answer (does ss ls)) xs ws r
-does-written {r = r} {k = k} {xs = xs} {zs = zs} {ws = ws} ss ls e u v w q =
-    let all = writes-before (writes-then u v) (subst (λ (n : ℕ). Writes 0 (does-head k) zs ws n) q w) in
-    subst (λ (n : ℕ). Writes 0 (does-head n ++ (write-saids ss ++ (write-number (length ls) ++ write-letters ls))) xs ws r) e all
+pub does_written : {a r k h : ℕ} {xs ys zs ws : List ℕ} (ss : List Said) (ls : List Letter) → k ≡ length ss
+    → Writes 9 (write_saids ss) xs ys a → Writes a (write_number (length ls) ++ write_letters ls) ys zs r → Writes 0 (does_head k) zs ws h
+    → h ≡ 9 → Writes 0 (write_answer (does ss ls)) xs ws r
+does_written {r = r} {k = k} {xs = xs} {zs = zs} {ws = ws} ss ls e u v w q =
+    let all = writes_before (writes_then u v) (subst (λ (n : ℕ). Writes 0 (does_head k) zs ws n) q w) in
+    subst (λ (n : ℕ). Writes 0 (does_head n ++ (write_saids ss ++ (write_number (length ls) ++ write_letters ls))) xs ws r) e all
 
-pub does-as : {ss ts : List Said} {ls ks : List Letter} → ss ≡ ts → ls ≡ ks → does ss ls ≡ does ts ks
-does-as {ts = ts} {ls = ls} e f = ap (λ (z : List Said). does z ls) e ∙ ap (does ts) f
+pub does_as : {ss ts : List Said} {ls ks : List Letter} → ss ≡ ts → ls ≡ ks → does ss ls ≡ does ts ks
+does_as {ts = ts} {ls = ls} e f = ap (λ (z : List Said). does z ls) e ∙ ap (does ts) f
 
 -- the front is written after something else was
-pub begins-after : {at a r : ℕ} {p bs xs ys zs : List ℕ} → Writes at p xs ys a → Writes 0 bs ys zs r → Begins bs xs zs
-begins-after {at = at} {p = p} {xs = xs} u w =
+pub begins_after : {at a r : ℕ} {p bs xs ys zs : List ℕ} → Writes at p xs ys a → Writes 0 bs ys zs r → Begins bs xs zs
+begins_after {at = at} {p = p} {xs = xs} u w =
     let b = begins w in
-    let n = u .next in
-    let h = u .room in
-    let l = ap length (u .bytes) ∙ length-put at p xs (omega arith) in
-    record { long = b .long ∙ l; within = b .within; front = b .front }
+    let n = u.next in
+    let h = u.room in
+    let l = ap length u.bytes ∙ length_put at p xs (omega arith) in
+    record { long = b.long ∙ l; within = b.within; front = b.front }
 
 -- an answer that does something, as it is returned and as it stands in the bytes
-pub does-answered : {k j n : ℕ} {xs ys : List ℕ} {ss ts : List Said} {ls es : List Letter} → ss ≡ ts → ls ≡ es → k ≡ length ss
-    → j ≡ length ls → Writes 0 (write-answer (does ss ls)) xs ys n
-    → (Does k j n ≡ answer-of (does ts es)) × Begins (write-answer (does ts es)) xs ys
-does-answered {k = k} {j = j} {n = n} {xs = xs} {ys = ys} {ss = ss} {ts = ts} {ls = ls} {es = es} e f p q w =
-    let d : does ss ls ≡ does ts es = does-as e f in
-    let z = w .next in
-    let m : n ≡ length (write-answer (does ss ls)) = omega arith in (
+pub does_answered : {k j n : ℕ} {xs ys : List ℕ} {ss ts : List Said} {ls es : List Letter} → ss ≡ ts → ls ≡ es → k ≡ length ss
+    → j ≡ length ls → Writes 0 (write_answer (does ss ls)) xs ys n
+    → (Does k j n ≡ answer_of (does ts es)) × Begins (write_answer (does ts es)) xs ys
+does_answered {k = k} {j = j} {n = n} {xs = xs} {ys = ys} {ss = ss} {ts = ts} {ls = ls} {es = es} e f p q w =
+    let d : does ss ls ≡ does ts es = does_as e f in
+    let z = w.next in
+    let m : n ≡ length (write_answer (does ss ls)) = omega arith in (
       ap (λ (x : ℕ). Does x j n) p
           ∙ (ap (λ (x : ℕ). Does (length ss) x n) q
-          ∙ (ap (Does (length ss) (length ls)) m ∙ ap answer-of d)),
-      subst (λ (a : server.Answer). Begins (write-answer a) xs ys) d (begins w),
+          ∙ (ap (Does (length ss) (length ls)) m ∙ ap answer_of d)),
+      subst (λ (a : server.Answer). Begins (write_answer a) xs ys) d (begins w),
     )
 
 -- an answer in which nothing is told or sent
-pub nothing-written : {r : ℕ} {xs ys zs : List ℕ} → Writes 0 (does-head 0) xs ys 9 → Writes 9 (write-number 0) ys zs r
-    → Writes 0 (write-answer (does [] [])) xs zs r
-unfolding write-saids write-letters
-nothing-written u v = writes-as (ap (λ (z : List ℕ). does-head 0 ++ z) (sym (append-nil (write-number 0)))) (writes-then u v)
+pub nothing_written : {r : ℕ} {xs ys zs : List ℕ} → Writes 0 (does_head 0) xs ys 9 → Writes 9 (write_number 0) ys zs r
+    → Writes 0 (write_answer (does [] [])) xs zs r
+unfolding write_saids write_letters
+nothing_written u v = writes_as (ap (λ (z : List ℕ). does_head 0 ++ z) (sym (append-nil (write_number 0)))) (writes_then u v)

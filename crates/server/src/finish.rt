@@ -1,28 +1,25 @@
 // What follows every event: the leader settles, what is committed is applied and told, and letters go out.
-ghost use mathlib.Core.Path.{_≡_};
-ghost use Prim.Native.Nat.{_≤_};
-ghost use lib.ListN.{length};
-ghost use Rattle·servers.specs.Server.{not-leader, after-all};
-ghost use Rattle·state.specs.Held.{Held, limits-of, state-of};
-ghost use Rattle·server·specs.Answered.{Finished, Room, finish-answer};
-ghost use Rattle·server·specs.First.{first-of};
-use crate::first::First;
-use crate::first::write_letters;
+ghost use Rattle.std.specs.Prelude.{◌≡◌, ◌≤◌, length};
+ghost use Rattle.servers.specs.Server.{not_leader, after_all};
+ghost use Rattle.state.specs.Held.{Held, limits_of, state_of};
+ghost use Rattle.server.specs.Answered.{Finished, Room, finish_answer};
+ghost use Rattle.server.specs.First.{first_of};
+
+use crate::first::{First, write_letters};
 use crate::settle::take_send;
 use apply::all::apply_all;
 use replication::commit::settle;
-use wire_write::answer::Answer;
-use wire_write::answer::write_does_head;
+use wire_write::answer::{Answer, write_does_head};
 
 // Where what is told begins: after one byte and its number.
 const TOLD: usize = 9;
 
 // The number of what is told is written last, when it is known.
 pub fn finish(mem: &mut [u64], out: &mut [u8], first: First) -> Answer
-    requires held { ⌜ Held (now mem) ⌝ }
-    requires room { ⌜ Room (now mem) (finish-answer (limits-of (now mem)) (state-of (now mem)) (first-of (limits-of (now mem)) (state-of (now mem)) first)) (length (now out)) ⌝ }
-    ensures { λ r. ⌜ Finished (now (mem .entry)) (now (out .entry)) (now (mem .exit)) (now (out .exit))
-        (first-of (limits-of (now (mem .entry))) (state-of (now (mem .entry))) first) r ⌝ }
+    requires held { Held mem.old }
+    requires room { Room mem.old (finish_answer (limits_of mem.old) (state_of mem.old) (first_of (limits_of mem.old) (state_of mem.old) first)) (length out.old) }
+    ensures { Finished mem.old out.old mem.new out.new
+        (first_of (limits_of mem.old) (state_of mem.old) first) result }
 {
     settle(mem);
     let send = take_send(mem);

@@ -1,17 +1,12 @@
 // The letters of an answer: first those that the event itself leaves to be sent, then entries to all.
-ghost use mathlib.Core.Path.{_≡_};
-ghost use mathlib.Core.List.{_++_};
-ghost use Prim.Native.Nat.{_+_, _≤_};
-ghost use lib.ListN.{length};
-ghost use Rattle·wire.specs.Write.{write-letters, write-number};
-ghost use Rattle·wire_write.specs.Put.{Writes};
-ghost use Rattle·state.specs.Held.{Held, limits-of, state-of};
-ghost use Rattle·server·specs.First.{first-of, entries-if, letters-of};
-use sending::letter::write_appended_letter;
-use sending::letter::write_vote_letter;
-use sending::others::ask_all;
-use sending::others::others;
-use sending::others::to_all;
+ghost use Rattle.std.specs.Prelude.{◌≡◌, ◌+◌, ◌≤◌, ◌++◌, length};
+ghost use Rattle.wire.specs.Write.{write_letters, write_number};
+ghost use Rattle.wire_write.specs.Put.{Writes};
+ghost use Rattle.state.specs.Held.{Held, limits_of, state_of};
+ghost use Rattle.server.specs.First.{first_of, entries_if, letters_of};
+
+use sending::letter::{write_appended_letter, write_vote_letter};
+use sending::others::{ask_all, others, to_all};
 use wire_write::put::write_number;
 
 // What goes out before entries: nothing, requests for votes, a vote to a server, or a reply to entries.
@@ -24,9 +19,9 @@ pub enum First {
 }
 
 fn count_first(mem: &[u64], first: First) -> u64
-    requires held { ⌜ Held (now mem) ⌝ }
-    ensures value { λ r. ⌜ r ≡ length (first-of (limits-of (now (mem .entry))) (state-of (now (mem .entry))) first) ⌝ }
-    ensures low { λ r. ⌜ r ≤ 16 ⌝ }
+    requires held { Held mem.now }
+    ensures value { result ≡ length (first_of (limits_of mem.now) (state_of mem.now) first) }
+    ensures low { result ≤ 16 }
 {
     match first {
         First::Nothing => 0,
@@ -37,18 +32,18 @@ fn count_first(mem: &[u64], first: First) -> u64
 }
 
 fn count_entries(mem: &[u64], send: bool) -> u64
-    requires held { ⌜ Held (now mem) ⌝ }
-    ensures value { λ r. ⌜ r ≡ length (entries-if send (limits-of (now (mem .entry))) (state-of (now (mem .entry)))) ⌝ }
-    ensures low { λ r. ⌜ r ≤ 16 ⌝ }
+    requires held { Held mem.now }
+    ensures value { result ≡ length (entries_if send (limits_of mem.now) (state_of mem.now)) }
+    ensures low { result ≤ 16 }
 {
     if send { others(mem) } else { 0 }
 }
 
 fn write_first(mem: &[u64], out: &mut [u8], at: usize, first: First) -> usize
-    requires held { ⌜ Held (now mem) ⌝ }
-    requires room { ⌜ at + length (write-letters (first-of (limits-of (now mem)) (state-of (now mem)) first)) ≤ length (now out) ⌝ }
-    ensures { λ r. ⌜ Writes at (write-letters (first-of (limits-of (now (mem .entry))) (state-of (now (mem .entry))) first))
-        (now (out .entry)) (now (out .exit)) r ⌝ }
+    requires held { Held mem.now }
+    requires room { at + length (write_letters (first_of (limits_of mem.now) (state_of mem.now) first)) ≤ length out.old }
+    ensures { Writes at (write_letters (first_of (limits_of mem.now) (state_of mem.now) first))
+        out.old out.new result }
 {
     match first {
         First::Nothing => at,
@@ -59,10 +54,10 @@ fn write_first(mem: &[u64], out: &mut [u8], at: usize, first: First) -> usize
 }
 
 fn write_entries_if(mem: &[u64], out: &mut [u8], at: usize, send: bool) -> usize
-    requires held { ⌜ Held (now mem) ⌝ }
-    requires room { ⌜ at + length (write-letters (entries-if send (limits-of (now mem)) (state-of (now mem)))) ≤ length (now out) ⌝ }
-    ensures { λ r. ⌜ Writes at (write-letters (entries-if send (limits-of (now (mem .entry))) (state-of (now (mem .entry)))))
-        (now (out .entry)) (now (out .exit)) r ⌝ }
+    requires held { Held mem.now }
+    requires room { at + length (write_letters (entries_if send (limits_of mem.now) (state_of mem.now))) ≤ length out.old }
+    ensures { Writes at (write_letters (entries_if send (limits_of mem.now) (state_of mem.now)))
+        out.old out.new result }
 {
     if send { to_all(mem, out, at) } else { at }
 }
@@ -76,13 +71,13 @@ pub struct Sent {
 
 // The letters, with their number before them.
 pub fn write_letters(mem: &[u64], out: &mut [u8], at: usize, first: First, send: bool) -> Sent
-    requires held { ⌜ Held (now mem) ⌝ }
-    requires room { ⌜ at + 8 + length (write-letters (letters-of send (limits-of (now mem)) (state-of (now mem)) first)) ≤ length (now out) ⌝ }
-    ensures count { λ r. ⌜ r .count ≡ length (letters-of send (limits-of (now (mem .entry))) (state-of (now (mem .entry))) first) ⌝ }
-    ensures bytes { λ r. ⌜ Writes at
-        (write-number (length (letters-of send (limits-of (now (mem .entry))) (state-of (now (mem .entry))) first))
-        ++ write-letters (letters-of send (limits-of (now (mem .entry))) (state-of (now (mem .entry))) first))
-        (now (out .entry)) (now (out .exit)) (r .end) ⌝ }
+    requires held { Held mem.now }
+    requires room { at + 8 + length (write_letters (letters_of send (limits_of mem.now) (state_of mem.now) first)) ≤ length out.old }
+    ensures count { result.count ≡ length (letters_of send (limits_of mem.now) (state_of mem.now) first) }
+    ensures bytes { Writes at
+        (write_number (length (letters_of send (limits_of mem.now) (state_of mem.now) first))
+        ++ write_letters (letters_of send (limits_of mem.now) (state_of mem.now) first))
+        out.old out.new result.end }
 {
     let count = count_first(mem, first) + count_entries(mem, send);
     let n0 = write_number(out, at, count);

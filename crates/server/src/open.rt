@@ -1,15 +1,12 @@
 // A server is opened in words that are lent to it.
-ghost use mathlib.Core.Path.{_≡_};
-ghost use mathlib.Core.Bool.{true};
-ghost use mathlib.Core.List.{_++_};
-ghost use Prim.Native.Nat.{_+_, _*_, _≤_};
-ghost use lib.ListN.{length, drop};
-ghost use Rattle·servers.specs.Opened.{limits-of};
-ghost use Rattle·servers.specs.Promise.{Good-limits};
-ghost use Rattle·wire.specs.Sizes.{answer-size};
-ghost use Rattle·memory.specs.Program.{serves, opened};
-ghost use Rattle·server·specs.Opening.{memory-size, lent, Opens};
-ghost use Rattle·server·specs.Heads.{head-words};
+ghost use Rattle.std.specs.Prelude.{◌≡◌, ◌+◌, ◌*◌, ◌≤◌, true, ◌++◌, length, drop};
+ghost use Rattle.servers.specs.Opened.{limits_of};
+ghost use Rattle.servers.specs.Promise.{GoodLimits};
+ghost use Rattle.wire.specs.Sizes.{answer_size};
+ghost use Rattle.memory.specs.Program.{serves, opened};
+ghost use Rattle.server.specs.Opening.{memory_size, lent, Opens};
+ghost use Rattle.server.specs.Heads.{head_words};
+
 use servers::limits::Limits;
 use store::start::open_region;
 
@@ -22,16 +19,16 @@ pub enum Short {
 
 // How many words a server needs.
 pub fn memory_words(l: Limits) -> usize
-    requires good { ⌜ Good-limits serves (limits-of serves l) ⌝ }
-    ensures { λ r. ⌜ r ≡ memory-size (limits-of serves l) ⌝ }
+    requires good { GoodLimits serves (limits_of serves l) }
+    ensures { result ≡ memory_size (limits_of serves l) }
 {
     16 + 2 * l.servers as usize + 68 * l.clients as usize + 123 * l.room as usize
 }
 
 // How many bytes its longest answer has.
 pub fn answer_bytes(l: Limits) -> usize
-    requires good { ⌜ Good-limits serves (limits-of serves l) ⌝ }
-    ensures { λ r. ⌜ r ≡ answer-size (limits-of serves l) ⌝ }
+    requires good { GoodLimits serves (limits_of serves l) }
+    ensures { result ≡ answer_size (limits_of serves l) }
 {
     let letter = 50 + 635 * l.room as usize;
     17 + 546 * l.room as usize + (l.servers as usize - 1) * letter
@@ -42,8 +39,8 @@ const MARK: u64 = 5_433_993_681_330_665_985;
 
 // The limits in the head.
 fn write_head(mem: &mut [u64], l: Limits)
-    requires { ⌜ 14 ≤ length (now mem) ⌝ }
-    ensures { λ _. ⌜ now (mem .exit) ≡ head-words l ++ drop 5 (now (mem .entry)) ⌝ }
+    requires { 14 ≤ length mem.old }
+    ensures { mem.new ≡ head_words l ++ drop 5 mem.old }
 {
     mem[0] = MARK;
     mem[1] = l.servers;
@@ -54,9 +51,9 @@ fn write_head(mem: &mut [u64], l: Limits)
 
 // Words that are a server's as it is opened: the limits, an empty store, and 0 everywhere else.
 fn write_new(mem: &mut [u64], l: Limits)
-    requires good { ⌜ Good-limits serves (limits-of serves l) ⌝ }
-    requires long { ⌜ length (now mem) ≡ memory-size (limits-of serves l) ⌝ }
-    ensures { λ _. ⌜ now (mem .exit) ≡ opened (limits-of serves l) ⌝ }
+    requires good { GoodLimits serves (limits_of serves l) }
+    requires long { length mem.old ≡ memory_size (limits_of serves l) }
+    ensures { mem.new ≡ opened (limits_of serves l) }
 {
     mem.fill(0);
     let room = l.room as usize;
@@ -67,9 +64,9 @@ fn write_new(mem: &mut [u64], l: Limits)
 
 // Opens a server, or says what is too short and changes nothing.
 pub fn open(mem: &mut [u64], l: Limits, out: usize) -> Result<(), Short>
-    requires good { ⌜ Good-limits serves (limits-of serves l) ⌝ }
-    ensures value { λ r. ⌜ r ≡ lent (limits-of serves l) (length (now (mem .entry))) out ⌝ }
-    ensures memory { λ r. ⌜ Opens (limits-of serves l) (now (mem .entry)) (now (mem .exit)) r ⌝ }
+    requires good { GoodLimits serves (limits_of serves l) }
+    ensures value { result ≡ lent (limits_of serves l) (length mem.old) out }
+    ensures memory { Opens (limits_of serves l) mem.old mem.new result }
 {
     if mem.len() != memory_words(l) {
         return Err(Short::Memory);

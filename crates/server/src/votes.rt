@@ -1,26 +1,24 @@
 // The events of an election, each from its first step to its answer.
-ghost use mathlib.Core.Path.{_≡_};
-ghost use Prim.Native.Nat.{_<_, _≤_};
-ghost use lib.ListN.{length};
-ghost use Rattle·servers.specs.Store.{pick};
-ghost use Rattle·servers.specs.Server.{timeout, comes, ask-vote, vote, appended, turned, last-of-all};
-ghost use Rattle·memory.specs.Layout.{servers-in, room-in};
-ghost use Rattle·state.specs.Held.{Held, limits-of, state-of};
-ghost use Rattle·server·specs.Answered.{Answered, Room-for};
+ghost use Rattle.std.specs.Prelude.{◌≡◌, ◌<◌, ◌≤◌, length};
+ghost use Rattle.servers.specs.Store.{pick};
+ghost use Rattle.servers.specs.Server.{timeout, comes, ask_vote, vote, appended, turned, last_of_all};
+ghost use Rattle.memory.specs.Layout.{servers_in, room_in};
+ghost use Rattle.state.specs.Held.{Held, limits_of, state_of};
+ghost use Rattle.server.specs.Answered.{Answered, RoomFor};
+
 use crate::finish::finish;
 use crate::first::First;
 use crate::refuse::refuse;
 use checks::refusal::Refusal;
 use election::ask_vote::asked_for_vote;
-use election::timeout::may_go_on;
-use election::timeout::time_is_up;
+use election::timeout::{may_go_on, time_is_up};
 use election::vote::vote_comes;
 use replication::appended::appended_comes;
 use wire_write::answer::Answer;
 
 // Who leads asks for no votes.
 fn asks_unless(leads: bool) -> First
-    ensures { λ r. ⌜ r ≡ pick leads First.Nothing First.Asks ⌝ }
+    ensures { result ≡ pick leads First.Nothing First.Asks }
 {
     if leads {
         return First::Nothing;
@@ -30,10 +28,10 @@ fn asks_unless(leads: bool) -> First
 
 // Time is up, and there is a term to go to.
 fn go_on(mem: &mut [u64], out: &mut [u8]) -> Answer
-    requires held { ⌜ Held (now mem) ⌝ }
-    requires taken { ⌜ turned (limits-of (now mem)) (state-of (now mem)) timeout ≡ 0 ⌝ }
-    requires room { ⌜ Room-for (now mem) timeout (length (now out)) ⌝ }
-    ensures { λ r. ⌜ Answered (now (mem .entry)) (now (out .entry)) (now (mem .exit)) (now (out .exit)) timeout r ⌝ }
+    requires held { Held mem.old }
+    requires taken { turned (limits_of mem.old) (state_of mem.old) timeout ≡ 0 }
+    requires room { RoomFor mem.old timeout (length out.old) }
+    ensures { Answered mem.old out.old mem.new out.new timeout result }
 {
     let leads = time_is_up(mem);
     let first = asks_unless(leads);
@@ -41,9 +39,9 @@ fn go_on(mem: &mut [u64], out: &mut [u8]) -> Answer
 }
 
 pub fn on_timeout(mem: &mut [u64], out: &mut [u8]) -> Answer
-    requires held { ⌜ Held (now mem) ⌝ }
-    requires room { ⌜ Room-for (now mem) timeout (length (now out)) ⌝ }
-    ensures { λ r. ⌜ Answered (now (mem .entry)) (now (out .entry)) (now (mem .exit)) (now (out .exit)) timeout r ⌝ }
+    requires held { Held mem.old }
+    requires room { RoomFor mem.old timeout (length out.old) }
+    ensures { Answered mem.old out.old mem.new out.new timeout result }
 {
     let free = may_go_on(mem);
     if !free {
@@ -54,26 +52,26 @@ pub fn on_timeout(mem: &mut [u64], out: &mut [u8]) -> Answer
 
 // A server asks for a vote: the reply goes to it alone.
 pub fn on_ask(mem: &mut [u64], out: &mut [u8], from: u8, term: u64, last: u64, of: u64) -> Answer
-    requires held { ⌜ Held (now mem) ⌝ }
-    requires here { ⌜ from < servers-in (now mem) ⌝ }
-    requires low { ⌜ term ≤ last-of-all ⌝ }
-    requires taken { ⌜ turned (limits-of (now mem)) (state-of (now mem)) (comes from (ask-vote term last of)) ≡ 0 ⌝ }
-    requires room { ⌜ Room-for (now mem) (comes from (ask-vote term last of)) (length (now out)) ⌝ }
-    ensures { λ r. ⌜ Answered (now (mem .entry)) (now (out .entry)) (now (mem .exit)) (now (out .exit))
-        (comes from (ask-vote term last of)) r ⌝ }
+    requires held { Held mem.old }
+    requires here { from < servers_in mem.old }
+    requires low { term ≤ last_of_all }
+    requires taken { turned (limits_of mem.old) (state_of mem.old) (comes from (ask_vote term last of)) ≡ 0 }
+    requires room { RoomFor mem.old (comes from (ask_vote term last of)) (length out.old) }
+    ensures { Answered mem.old out.old mem.new out.new
+        (comes from (ask_vote term last of)) result }
 {
     let reply = asked_for_vote(mem, from as u64, term, last, of);
     finish(mem, out, First::Vote(from, reply.term, reply.granted))
 }
 
 pub fn on_vote(mem: &mut [u64], out: &mut [u8], from: u8, term: u64, granted: bool) -> Answer
-    requires held { ⌜ Held (now mem) ⌝ }
-    requires here { ⌜ from < servers-in (now mem) ⌝ }
-    requires low { ⌜ term ≤ last-of-all ⌝ }
-    requires taken { ⌜ turned (limits-of (now mem)) (state-of (now mem)) (comes from (vote term granted)) ≡ 0 ⌝ }
-    requires room { ⌜ Room-for (now mem) (comes from (vote term granted)) (length (now out)) ⌝ }
-    ensures { λ r. ⌜ Answered (now (mem .entry)) (now (out .entry)) (now (mem .exit)) (now (out .exit))
-        (comes from (vote term granted)) r ⌝ }
+    requires held { Held mem.old }
+    requires here { from < servers_in mem.old }
+    requires low { term ≤ last_of_all }
+    requires taken { turned (limits_of mem.old) (state_of mem.old) (comes from (vote term granted)) ≡ 0 }
+    requires room { RoomFor mem.old (comes from (vote term granted)) (length out.old) }
+    ensures { Answered mem.old out.old mem.new out.new
+        (comes from (vote term granted)) result }
 {
     vote_comes(mem, from as u64, term, granted);
     finish(mem, out, First::Nothing)
@@ -88,14 +86,14 @@ pub fn on_appended(
     index: u64,
     ok: bool,
 ) -> Answer
-    requires held { ⌜ Held (now mem) ⌝ }
-    requires here { ⌜ from < servers-in (now mem) ⌝ }
-    requires low { ⌜ term ≤ last-of-all ⌝ }
-    requires within { ⌜ index ≤ room-in (now mem) ⌝ }
-    requires taken { ⌜ turned (limits-of (now mem)) (state-of (now mem)) (comes from (appended term index ok)) ≡ 0 ⌝ }
-    requires room { ⌜ Room-for (now mem) (comes from (appended term index ok)) (length (now out)) ⌝ }
-    ensures { λ r. ⌜ Answered (now (mem .entry)) (now (out .entry)) (now (mem .exit)) (now (out .exit))
-        (comes from (appended term index ok)) r ⌝ }
+    requires held { Held mem.old }
+    requires here { from < servers_in mem.old }
+    requires low { term ≤ last_of_all }
+    requires within { index ≤ room_in mem.old }
+    requires taken { turned (limits_of mem.old) (state_of mem.old) (comes from (appended term index ok)) ≡ 0 }
+    requires room { RoomFor mem.old (comes from (appended term index ok)) (length out.old) }
+    ensures { Answered mem.old out.old mem.new out.new
+        (comes from (appended term index ok)) result }
 {
     appended_comes(mem, from as usize, term, index, ok);
     finish(mem, out, First::Nothing)

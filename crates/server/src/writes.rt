@@ -1,19 +1,16 @@
 // The events that write the log, each from its first step to its answer.
-ghost use mathlib.Core.Path.{_≡_};
-ghost use mathlib.Core.Bool.{true, false, _&&_};
-ghost use Prim.Native.Nat.{_+_, _*_, _<_, _≤_};
-ghost use lib.Dec.{leb, eqb};
-ghost use lib.ListN.{length};
-ghost use Rattle·servers.specs.Server.{request, comes, append, turned, finished, dues, not-leader};
-ghost use Rattle·servers.specs.Promise.{readable};
-ghost use Rattle·wire.specs.Write.{write-answer};
-ghost use Rattle·wire_write.specs.Answers.{answer-of};
-ghost use Rattle·wire_read.specs.Means.{command-of, entries-of, Command-in, Entries-in};
-ghost use Rattle·memory.specs.Layout.{room-in, region-in};
-ghost use Rattle·memory.specs.Program.{region-all};
-ghost use Rattle·checks.specs.Refusals.{by-state};
-ghost use Rattle·state.specs.Held.{Held, Turns, limits-of, state-of};
-ghost use Rattle·server·specs.Answered.{Answered, Begins, Room-for};
+ghost use Rattle.std.specs.Prelude.{◌≡◌, ◌+◌, ◌*◌, ◌<◌, ◌≤◌, true, false, ◌&&◌, length, ◌==◌, nat_le};
+ghost use Rattle.servers.specs.Server.{request, comes, append, turned, finished, dues, not_leader};
+ghost use Rattle.servers.specs.Promise.{readable};
+ghost use Rattle.wire.specs.Write.{write_answer};
+ghost use Rattle.wire_write.specs.Answers.{answer_of};
+ghost use Rattle.wire_read.specs.Means.{command_of, entries_of, CommandIn, EntriesIn};
+ghost use Rattle.memory.specs.Layout.{room_in, region_in};
+ghost use Rattle.memory.specs.Program.{region_all};
+ghost use Rattle.checks.specs.Refusals.{by_state};
+ghost use Rattle.state.specs.Held.{Held, Turns, limits_of, state_of};
+ghost use Rattle.server.specs.Answered.{Answered, Begins, RoomFor};
+
 use crate::finish::finish;
 use crate::first::First;
 use crate::refuse::refuse;
@@ -23,16 +20,14 @@ use entries::append::append;
 use entries::request::request;
 use state::head;
 use state::limits::limits;
-use wire_read::parts::Command;
-use wire_read::parts::Entries;
-use wire_write::answer::Answer;
-use wire_write::answer::write_not_leader;
+use wire_read::parts::{Command, Entries};
+use wire_write::answer::{Answer, write_not_leader};
 
 // Whether the log of a leader has no room for an entry more.
 fn is_full(mem: &[u64]) -> bool
-    requires held { ⌜ Held (now mem) ⌝ }
-    ensures { λ r. ⌜ r ≡ (eqb (state-of (now (mem .entry)) .kind) 2
-        && leb (room-in (now (mem .entry))) (length (state-of (now (mem .entry)) .log))) ⌝ }
+    requires held { Held mem.now }
+    ensures { result ≡ (((state_of mem.now).kind == 2)
+        && nat_le (room_in mem.now) (length (state_of mem.now).log)) }
 {
     let leads = head::is_leader(mem);
     let room = limits(mem).room;
@@ -42,12 +37,12 @@ fn is_full(mem: &[u64]) -> bool
 
 // Who doesn't lead says so, and applies what was committed.
 fn decline(mem: &mut [u64], out: &mut [u8]) -> Answer
-    requires held { ⌜ Held (now mem) ⌝ }
-    requires room { ⌜ 17 + 546 * room-in (now mem) ≤ length (now out) ⌝ }
-    ensures state { λ _. ⌜ Turns (now (mem .entry)) (now (mem .exit)) (finished (state-of (now (mem .entry))))
-        (region-all (state-of (now (mem .entry))) (dues (state-of (now (mem .entry)))) (region-in (now (mem .entry)))) ⌝ }
-    ensures answer { λ r. ⌜ r ≡ answer-of not-leader ⌝ }
-    ensures bytes { λ _. ⌜ Begins (write-answer not-leader) (now (out .entry)) (now (out .exit)) ⌝ }
+    requires held { Held mem.old }
+    requires room { 17 + 546 * room_in mem.old ≤ length out.old }
+    ensures state { Turns mem.old mem.new (finished (state_of mem.old))
+        (region_all (state_of mem.old) (dues (state_of mem.old)) (region_in mem.old)) }
+    ensures answer { result ≡ answer_of not_leader }
+    ensures bytes { Begins (write_answer not_leader) out.old out.new }
 {
     apply_all(mem, out, 9);
     write_not_leader(out, 0);
@@ -63,14 +58,14 @@ fn take_request(
     id: u64,
     command: Command,
 ) -> Answer
-    requires held { ⌜ Held (now mem) ⌝ }
-    requires leads { ⌜ eqb (state-of (now mem) .kind) 2 ≡ true ⌝ }
-    requires within { ⌜ Command-in (now b) command ⌝ }
-    requires readable { ⌜ readable (request client id (command-of (now b) command)) ≡ true ⌝ }
-    requires taken { ⌜ turned (limits-of (now mem)) (state-of (now mem)) (request client id (command-of (now b) command)) ≡ 0 ⌝ }
-    requires room { ⌜ Room-for (now mem) (request client id (command-of (now b) command)) (length (now out)) ⌝ }
-    ensures { λ r. ⌜ Answered (now (mem .entry)) (now (out .entry)) (now (mem .exit)) (now (out .exit))
-        (request client id (command-of (now (b .entry)) command)) r ⌝ }
+    requires held { Held mem.old }
+    requires leads { ((state_of mem.old).kind == 2) ≡ true }
+    requires within { CommandIn b.now command }
+    requires readable { readable (request client id (command_of b.now command)) ≡ true }
+    requires taken { turned (limits_of mem.old) (state_of mem.old) (request client id (command_of b.now command)) ≡ 0 }
+    requires room { RoomFor mem.old (request client id (command_of b.now command)) (length out.old) }
+    ensures { Answered mem.old out.old mem.new out.new
+        (request client id (command_of b.now command)) result }
 {
     request(mem, b, client, id, command);
     finish(mem, out, First::Nothing)
@@ -85,14 +80,14 @@ pub fn on_request(
     id: u64,
     command: Command,
 ) -> Answer
-    requires held { ⌜ Held (now mem) ⌝ }
-    requires within { ⌜ Command-in (now b) command ⌝ }
-    requires readable { ⌜ readable (request client id (command-of (now b) command)) ≡ true ⌝ }
-    requires passed { ⌜ turned (limits-of (now mem)) (state-of (now mem)) (request client id (command-of (now b) command))
-        ≡ by-state (limits-of (now mem)) (state-of (now mem)) (request client id (command-of (now b) command)) ⌝ }
-    requires room { ⌜ Room-for (now mem) (request client id (command-of (now b) command)) (length (now out)) ⌝ }
-    ensures { λ r. ⌜ Answered (now (mem .entry)) (now (out .entry)) (now (mem .exit)) (now (out .exit))
-        (request client id (command-of (now (b .entry)) command)) r ⌝ }
+    requires held { Held mem.old }
+    requires within { CommandIn b.now command }
+    requires readable { readable (request client id (command_of b.now command)) ≡ true }
+    requires passed { turned (limits_of mem.old) (state_of mem.old) (request client id (command_of b.now command))
+        ≡ by_state (limits_of mem.old) (state_of mem.old) (request client id (command_of b.now command)) }
+    requires room { RoomFor mem.old (request client id (command_of b.now command)) (length out.old) }
+    ensures { Answered mem.old out.old mem.new out.new
+        (request client id (command_of b.now command)) result }
 {
     let full = is_full(mem);
     if full {
@@ -117,15 +112,15 @@ pub fn on_append(
     commit: u64,
     entries: Entries,
 ) -> Answer
-    requires held { ⌜ Held (now mem) ⌝ }
-    requires within { ⌜ Entries-in (now b) entries ⌝ }
-    requires readable { ⌜ readable (comes from (append term before «before_term» (entries-of (now b) entries) commit)) ≡ true ⌝ }
-    requires taken { ⌜ turned (limits-of (now mem)) (state-of (now mem))
-        (comes from (append term before «before_term» (entries-of (now b) entries) commit)) ≡ 0 ⌝ }
-    requires room { ⌜ Room-for (now mem) (comes from (append term before «before_term» (entries-of (now b) entries) commit))
-        (length (now out)) ⌝ }
-    ensures { λ r. ⌜ Answered (now (mem .entry)) (now (out .entry)) (now (mem .exit)) (now (out .exit))
-        (comes from (append term before «before_term» (entries-of (now (b .entry)) entries) commit)) r ⌝ }
+    requires held { Held mem.old }
+    requires within { EntriesIn b.now entries }
+    requires readable { readable (comes from (append term before before_term (entries_of b.now entries) commit)) ≡ true }
+    requires taken { turned (limits_of mem.old) (state_of mem.old)
+        (comes from (append term before before_term (entries_of b.now entries) commit)) ≡ 0 }
+    requires room { RoomFor mem.old (comes from (append term before before_term (entries_of b.now entries) commit))
+        (length out.old) }
+    ensures { Answered mem.old out.old mem.new out.new
+        (comes from (append term before before_term (entries_of b.now entries) commit)) result }
 {
     let reply = append(
         mem,

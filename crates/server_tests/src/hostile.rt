@@ -1,13 +1,12 @@
 // HOSTILE EVENTS, and those next to them that pass, one after the other: each is refused with its number and place, or done, and what
 // is refused leaves every word of the memory as it was.
-ghost use Rattle·server_tests·specs.Live.{Live};
-use crate::notation::bytes;
-use crate::notation::row;
-use crate::server::WORDS;
-use crate::server::open_server;
-use crate::server::take;
+ghost use Rattle.server_tests.specs.Live.{Live};
+
+use crate::notation::{bytes, row};
+use crate::server::{WORDS, open_server, take};
 use std::alloc::Global;
-use std::test::*;
+use std::process::Abort;
+use std::test::Fail;
 
 // At a server that follows: what comes, its bytes, and the bytes of the answer.
 static FOLLOWER: [&str; 62] = [
@@ -100,94 +99,106 @@ static WHOLE: [&str; 6] = [
 ];
 
 // Whether an event is answered so, and a refusal changes nothing.
-fn answers(heap: Global, mem: &mut [u64], event: &[u8], expected: &[u8]) -> Result<(), Fail>
-    requires live { ⌜ Live (now mem) ⌝ }
-    ensures live { λ _. ⌜ Live (now (mem .exit)) ⌝ }
+fn answers(
+    rt: &impl Abort,
+    heap: Global,
+    mem: &mut [u64],
+    event: &[u8],
+    expected: &[u8],
+) -> Result<(), Fail>
+    requires live { Live mem.old }
+    ensures live { Live mem.new }
 {
     let before = Vec::from_slice(heap, mem)?;
     let answer = take(heap, mem, event)?;
-    check_eq(answer.as_slice(), expected)?;
-    check(!expected.starts_with(&[0]) || &*mem == before.as_slice())
+    assert_eq!(rt; answer.as_slice(), expected);
+    assert!(rt; !expected.starts_with(&[0]) || &*mem == before.as_slice());
+    Ok(())
 }
 
-fn all_answer(heap: Global, mem: &mut [u64], rows: &[&'static str]) -> Result<(), Fail>
-    requires live { ⌜ Live (now mem) ⌝ }
+fn all_answer(
+    rt: &impl Abort,
+    heap: Global,
+    mem: &mut [u64],
+    rows: &[&'static str],
+) -> Result<(), Fail>
+    requires live { Live mem.old }
 {
     for line in rows {
         let (event, answer) = row(heap, line)?;
-        answers(heap, mem, &event, &answer).note(*line)?;
+        answers(rt, heap, mem, &event, &answer).note(*line)?;
     }
     Ok(())
 }
 
 // Every front part of an event's bytes is refused where it ends.
-fn cut_short(heap: Global, mem: &mut [u64], event: &[u8]) -> Result<(), Fail>
-    requires live { ⌜ Live (now mem) ⌝ }
-    ensures live { λ _. ⌜ Live (now (mem .exit)) ⌝ }
+fn cut_short(rt: &impl Abort, heap: Global, mem: &mut [u64], event: &[u8]) -> Result<(), Fail>
+    requires live { Live mem.old }
+    ensures live { Live mem.new }
 {
     for len in 0..event.len() {
         let mut expected = vec![in heap; 0, 1]?;
         expected.extend_from_slice(&(len as u64).to_le_bytes())?;
-        answers(heap, mem, &event[..len], &expected)?;
+        answers(rt, heap, mem, &event[..len], &expected)?;
     }
     Ok(())
 }
 
-fn all_cut_short(heap: Global, mem: &mut [u64]) -> Result<(), Fail>
-    requires live { ⌜ Live (now mem) ⌝ }
+fn all_cut_short(rt: &impl Abort, heap: Global, mem: &mut [u64]) -> Result<(), Fail>
+    requires live { Live mem.old }
 {
     for event in WHOLE {
         let event = bytes(heap, event)?;
-        cut_short(heap, mem, &event)?;
+        cut_short(rt, heap, mem, &event)?;
     }
     Ok(())
 }
 
 #[test]
-fn at_a_follower(rt: LibcRuntime) -> Result<(), Fail> {
+fn at_a_follower(rt: HostRuntime) -> Result<(), Fail> {
     let mut mem = [0; WORDS];
     open_server(&mut mem, 0)?;
-    all_answer(rt.alloc(), &mut mem, &FOLLOWER)
+    all_answer(&rt, rt.alloc(), &mut mem, &FOLLOWER)
 }
 
 #[test]
-fn at_a_leader(rt: LibcRuntime) -> Result<(), Fail> {
+fn at_a_leader(rt: HostRuntime) -> Result<(), Fail> {
     let mut mem = [0; WORDS];
     open_server(&mut mem, 0)?;
-    all_answer(rt.alloc(), &mut mem, &LEADER)
+    all_answer(&rt, rt.alloc(), &mut mem, &LEADER)
 }
 
 #[test]
-fn cut(rt: LibcRuntime) -> Result<(), Fail> {
+fn cut(rt: HostRuntime) -> Result<(), Fail> {
     let mut mem = [0; WORDS];
     open_server(&mut mem, 0)?;
-    all_cut_short(rt.alloc(), &mut mem)
+    all_cut_short(&rt, rt.alloc(), &mut mem)
 }
 
 // A text of 256 bytes passes, and one more doesn't.
 #[test]
-fn long_texts(rt: LibcRuntime) -> Result<(), Fail> {
+fn long_texts(rt: HostRuntime) -> Result<(), Fail> {
     let heap = rt.alloc();
     let mut mem = [0; WORDS];
     open_server(&mut mem, 0)?;
     let mut event = bytes(heap, "1, 0# 1# 1, 0# 256#")?;
     event.resize(290, 120)?;
-    answers(heap, &mut mem, &event, &[1])?;
+    answers(&rt, heap, &mut mem, &event, &[1])?;
     let mut event = bytes(heap, "1, 0# 1# 1, 0# 257#")?;
     event.resize(291, 120)?;
-    answers(heap, &mut mem, &event, &bytes(heap, "0, 2, 0#")?)
+    answers(&rt, heap, &mut mem, &event, &bytes(heap, "0, 2, 0#")?)
 }
 
 // As many entries as any room has, all with index 0, and a server too many in the one that is read last.
 #[test]
-fn many_entries(rt: LibcRuntime) -> Result<(), Fail> {
+fn many_entries(rt: HostRuntime) -> Result<(), Fail> {
     let heap = rt.alloc();
     let mut mem = [0; WORDS];
     open_server(&mut mem, 0)?;
     let mut event = bytes(heap, "2, 1, 2, 0# 0# 0# 0# 65536#")?;
     event.resize(2_752_555, 0)?;
-    answers(heap, &mut mem, &event, &bytes(heap, "0, 3, 0#")?)?;
-    check(event.len() == 2_752_555)?;
+    answers(&rt, heap, &mut mem, &event, &bytes(heap, "0, 3, 0#")?)?;
+    assert!(rt; event.len() == 2_752_555);
     event[2_752_513] = 3;
-    answers(heap, &mut mem, &event, &bytes(heap, "0, 2, 0#")?)
+    answers(&rt, heap, &mut mem, &event, &bytes(heap, "0, 2, 0#")?)
 }

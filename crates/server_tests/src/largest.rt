@@ -1,17 +1,16 @@
 // A server with the largest room takes as many entries as it has room for, all committed, and not one more.
-ghost use Prim.Native.Nat.{_≤_};
-ghost use Rattle·std.specs.Results.{Cases};
-ghost use Rattle·wire.specs.Sizes.{answer-size};
-ghost use Rattle·state.specs.Held.{limits-of};
-ghost use Rattle·server.specs.Reached.{Reached};
+ghost use Rattle.std.specs.Prelude.{◌≤◌, OnOk};
+ghost use Rattle.wire.specs.Sizes.{answer_size};
+ghost use Rattle.state.specs.Held.{limits_of};
+ghost use Rattle.server.specs.Reached.{Reached};
+
 use crate::notation::bytes;
-use server::open::ShortDebug;
 use server::open::open;
 use server::step::step;
 use servers::limits::Limits;
-use std::alloc::AllocError;
-use std::alloc::Global;
-use std::test::*;
+use std::alloc::{AllocError, Global};
+use std::process::Abort;
+use std::test::Fail;
 
 const LARGEST: Limits = Limits {
     servers: 2,
@@ -25,8 +24,8 @@ const WORDS: usize = 8_061_016;
 const BYTES: usize = 77_398_083;
 
 fn open_largest(mem: &mut [u64]) -> Result<(), Fail>
-    ensures { λ r. ⌜ Cases r (λ _. Reached (limits-of (now (mem .exit))) (now (mem .exit))
-        × (answer-size (limits-of (now (mem .exit))) ≤ 77398083)) (λ _. Unit {0}) ⌝ }
+    ensures { OnOk result (Reached (limits_of mem.new) mem.new
+        × (answer_size (limits_of mem.new) ≤ 77398083)) }
 {
     open(mem, LARGEST, BYTES)?;
     Ok(())
@@ -54,26 +53,27 @@ fn one_more(heap: Global) -> Result<Vec<u8>, AllocError> {
     Ok(event)
 }
 
-fn begins(heap: Global, out: &[u8], line: &str) -> Result<(), Fail> {
+fn begins(rt: &impl Abort, heap: Global, out: &[u8], line: &str) -> Result<(), Fail> {
     let answer = bytes(heap, line)?;
-    check(out.starts_with(&answer))
+    assert!(rt; out.starts_with(&answer));
+    Ok(())
 }
 
-fn play(heap: Global, mem: &mut [u64], out: &mut [u8]) -> Result<(), Fail> {
-    check(BYTES <= out.len())?;
+fn play(rt: &impl Abort, heap: Global, mem: &mut [u64], out: &mut [u8]) -> Result<(), Fail> {
+    assert!(rt; BYTES <= out.len());
     open_largest(mem)?;
     let event = all(heap)?;
     let _ = step(mem, &event, out);
-    begins(heap, out, "2, 0# 1# 1, 18# 3, 0# 65536# 1,")?;
+    begins(rt, heap, out, "2, 0# 1# 1, 18# 3, 0# 65536# 1,")?;
     let event = one_more(heap)?;
     let _ = step(mem, &event, out);
-    begins(heap, out, "0, 3, 0#")
+    begins(rt, heap, out, "0, 3, 0#")
 }
 
 #[test]
-fn as_many_as_there_is_room_for(rt: LibcRuntime) -> Result<(), Fail> {
+fn as_many_as_there_is_room_for(rt: HostRuntime) -> Result<(), Fail> {
     let heap = rt.alloc();
     let mut mem = vec![in heap; 0; WORDS]?;
     let mut out = vec![in heap; 0; BYTES]?;
-    play(heap, &mut mem, &mut out)
+    play(&rt, heap, &mut mem, &mut out)
 }

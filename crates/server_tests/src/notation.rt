@@ -1,7 +1,6 @@
 // Bytes as a line of text: `7,` is a byte, `7#` is the eight bytes of a number, a letter is itself, and spaces are nothing. So a
 // text of one byte is `1#x`. What stands before a colon is for the reader.
-use std::alloc::AllocError;
-use std::alloc::Global;
+use std::alloc::{AllocError, Global};
 
 fn read(heap: Global, line: &[u8]) -> Result<Vec<u8>, AllocError> {
     let mut b = Vec::new(heap);

@@ -1,16 +1,13 @@
 // Servers of a group of three, with two clients and room for three entries.
-ghost use Prim.Native.Nat.{_<_, _≤_};
-ghost use lib.ListN.{length};
-ghost use Rattle·std.specs.Results.{Cases};
-ghost use Rattle·server_tests·specs.Live.{Live};
+ghost use Rattle.std.specs.Prelude.{◌<◌, ◌≤◌, length, OnOk};
+ghost use Rattle.server_tests.specs.Live.{Live};
+
 use server::open;
-use server::open::ShortDebug;
 use server::step::step;
 use servers::limits::Limits;
 use state::parts::store_part;
-use std::alloc::AllocError;
-use std::alloc::Global;
-use std::test::*;
+use std::alloc::{AllocError, Global};
+use std::test::Fail;
 use store::bytes::look_up;
 use texts::pack::write_text;
 use wire_write::answer::answer_len;
@@ -20,8 +17,8 @@ pub const WORDS: usize = 527;
 const BYTES: usize = 5_565;
 
 pub fn open_server(mem: &mut [u64], me: u64) -> Result<(), Fail>
-    requires me { ⌜ me < 3 ⌝ }
-    ensures { λ r. ⌜ Cases r (λ _. Live (now (mem .exit))) (λ _. Unit {0}) ⌝ }
+    requires me { me < 3 }
+    ensures { OnOk result (Live mem.new) }
 {
     let l = Limits {
         servers: 3,
@@ -35,8 +32,8 @@ pub fn open_server(mem: &mut [u64], me: u64) -> Result<(), Fail>
 
 // The bytes of the answer to an event.
 pub fn take(heap: Global, mem: &mut [u64], event: &[u8]) -> Result<Vec<u8>, AllocError>
-    requires live { ⌜ Live (now mem) ⌝ }
-    ensures live { λ _. ⌜ Live (now (mem .exit)) ⌝ }
+    requires live { Live mem.old }
+    ensures live { Live mem.new }
 {
     let mut out = [0u8; BYTES];
     let len = answer_len(step(mem, event, &mut out));
@@ -45,9 +42,9 @@ pub fn take(heap: Global, mem: &mut [u64], event: &[u8]) -> Result<Vec<u8>, Allo
 
 // Whether the store has this text for a name.
 pub fn has(mem: &[u64], name: &[u8], text: &[u8]) -> bool
-    requires live { ⌜ Live (now mem) ⌝ }
-    requires name { ⌜ length (now name) ≤ 64 ⌝ }
-    requires text { ⌜ length (now text) ≤ 256 ⌝ }
+    requires live { Live mem.now }
+    requires name { length name.now ≤ 64 }
+    requires text { length text.now ≤ 256 }
 {
     let mut words = [0u64; 33];
     write_text(&mut words, text);

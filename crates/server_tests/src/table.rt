@@ -1,14 +1,12 @@
 // THE WORKED TABLE: three servers, two clients, room for three, row by row in the order of the world. A letter that comes is taken
 // from the bytes of the answer that it was sent in.
-ghost use Rattle·server_tests·specs.Live.{Live};
+ghost use Rattle.server_tests.specs.Live.{Live};
+
 use crate::notation::bytes;
-use crate::server::WORDS;
-use crate::server::has;
-use crate::server::open_server;
-use crate::server::take;
-use std::alloc::AllocError;
-use std::alloc::Global;
-use std::test::*;
+use crate::server::{WORDS, has, open_server, take};
+use std::alloc::{AllocError, Global};
+use std::process::Abort;
+use std::test::Fail;
 use wire_read::read::read_text;
 
 // What comes: an event, or the letter to this server in the answer of an earlier row.
@@ -18,8 +16,7 @@ enum Comes {
     Letter(usize),
 }
 
-use Comes::Event;
-use Comes::Letter;
+use Comes::{Event, Letter};
 
 // At which server, what comes, and its answer.
 static TABLE: [(u8, Comes, &str); 17] = [
@@ -124,8 +121,8 @@ fn take_at(
     one: &mut [u64],
     two: &mut [u64],
 ) -> Result<Vec<u8>, AllocError>
-    requires live { ⌜ Live (now zero) × Live (now one) × Live (now two) ⌝ }
-    ensures live { λ _. ⌜ Live (now (zero .exit)) × Live (now (one .exit)) × Live (now (two .exit)) ⌝ }
+    requires live { Live zero.old × Live one.old × Live two.old }
+    ensures live { Live zero.new × Live one.new × Live two.new }
 {
     match at {
         0 => take(heap, zero, event),
@@ -135,25 +132,37 @@ fn take_at(
 }
 
 // Every row, and then the stores of 0 and 2.
-fn play(heap: Global, zero: &mut [u64], one: &mut [u64], two: &mut [u64]) -> Result<(), Fail>
-    requires live { ⌜ Live (now zero) × Live (now one) × Live (now two) ⌝ }
+fn play(
+    rt: &impl Abort,
+    heap: Global,
+    zero: &mut [u64],
+    one: &mut [u64],
+    two: &mut [u64],
+) -> Result<(), Fail>
+    requires live { Live zero.old × Live one.old × Live two.old }
 {
     let mut answers = Vec::new(heap);
     for (at, comes, expected) in TABLE {
         let event = event(heap, &answers, at, comes)?;
         let answer = take_at(heap, at, &event, zero, one, two)?;
-        check_eq(answer.as_slice(), bytes(heap, expected)?.as_slice()).note(answers.len())?;
+        assert_eq!(rt;
+            answer.as_slice(),
+            bytes(heap, expected)?.as_slice(),
+            "{}",
+            answers.len()
+        );
         answers.push(answer)?;
     }
-    check(has(zero, b"a", b"y"))?;
-    check(has(two, b"a", b"y"))
+    assert!(rt; has(zero, b"a", b"y"));
+    assert!(rt; has(two, b"a", b"y"));
+    Ok(())
 }
 
 #[test]
-fn row_by_row(rt: LibcRuntime) -> Result<(), Fail> {
+fn row_by_row(rt: HostRuntime) -> Result<(), Fail> {
     let (mut zero, mut one, mut two) = ([0; WORDS], [0; WORDS], [0; WORDS]);
     open_server(&mut zero, 0)?;
     open_server(&mut one, 1)?;
     open_server(&mut two, 2)?;
-    play(rt.alloc(), &mut zero, &mut one, &mut two)
+    play(&rt, rt.alloc(), &mut zero, &mut one, &mut two)
 }

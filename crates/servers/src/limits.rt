@@ -1,11 +1,7 @@
 // The limits that a server is opened with, and the bounds that no server goes beyond.
-ghost use mathlib.Core.Path.{_≡_};
-ghost use mathlib.Core.Bool.{Bool, _&&_};
-ghost use Prim.Native.Nat.{ℕ, _+_, _/_, _<_, _≤_};
-ghost use lib.Dec.{ltb, leb};
-ghost use Rattle·std.specs.declared.result.Result.the-variants.{Ok, Err};
-ghost use Rattle·servers·specs.Store.{pick};
-ghost use Rattle·servers·specs.Opened.{opened, Opened-is-good};
+ghost use Rattle.std.specs.Prelude.{◌≡◌, ℕ, ◌+◌, ◌/◌, ◌<◌, ◌≤◌, Bool, ◌&&◌, Ok, Err};
+ghost use Rattle.servers.specs.Store.{pick};
+ghost use Rattle.servers.specs.Opened.{opened, OpenedIsGood};
 
 #[derive(Clone, Copy, PartialEq, Eq, Debug)]
 pub struct Limits {
@@ -41,7 +37,7 @@ impl Limits {
 
     // The limits, or the first of them that is out of its range.
     pub fn new(servers: u64, me: u64, clients: u64, room: u64) -> Result<Limits, Unfit>
-        ensures { λ r. ⌜ r ≡ opened servers me clients room ⌝ }
+        ensures { result ≡ opened servers me clients room }
     {
         if servers < Self::LEAST_SERVERS || servers > Self::MOST_SERVERS {
             return Err(Unfit::Servers);
@@ -65,7 +61,7 @@ impl Limits {
 
     // How many servers are more than half of them.
     pub fn majority(self) -> u64
-        ensures { λ r. ⌜ r ≡ self .servers / 2 + 1 ⌝ }
+        ensures { result ≡ self.servers / 2 + 1 }
     {
         self.servers / 2 + 1
     }
@@ -73,7 +69,7 @@ impl Limits {
 
 // Limits that were opened are the good ones that the promises speak of.
 pub fn opened_is_good() -> u8
-    ensures { λ _. ⌜ Opened-is-good ⌝ }
+    ensures { OpenedIsGood }
 {
     0
 }

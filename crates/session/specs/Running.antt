@@ -1,73 +1,67 @@
 -- What a session promises: memory and answers' records, by the events of the records that were taken. Assumes nothing: these are
 -- definitions.
-use mathlib.Core.Path.{_≡_}
-use mathlib.Core.Bool.{true}
-use mathlib.Core.List.{List, [], _∷_, _++_}
-use Prim.Native.Nat.{ℕ, _+_, _≤_, _<_}
-use lib.ListN.{length, take, drop}
-use Rattle·std.specs.declared.result.Result.{Result}
-use Rattle·std.specs.declared.result.Result.the-variants.{Ok, Err}
-use Rattle·wire.specs.Read.{Read, got, stuck, read-event, read-text}
-use Rattle·wire_read.specs.Means.{is-got}
-use Rattle·wire.specs.Write.{write-answer, write-record}
-use Rattle·wire.specs.Sizes.{answer-size}
-use Rattle·memory.specs.Program.{serves, called, says}
-use Rattle·state.specs.Held.{limits-of}
-use Rattle·server.specs.Reached.{Reached}
-use Rattle·session·specs.declared.run.Taken.{Taken}
-use Rattle·session·specs.declared.run.TooShort.{TooShort}
+use Rattle.std.specs.Prelude.{◌≡◌, ℕ, ◌+◌, ◌<◌, ◌≤◌, true, List, [], ◌∷◌, ◌++◌, length, take, drop, Ok, Err, Result}
+use Rattle.wire.specs.Read.{Read, got, stuck, read_event, read_text}
+use Rattle.wire_read.specs.Means.{is_got}
+use Rattle.wire.specs.Write.{write_answer, write_record}
+use Rattle.wire.specs.Sizes.{answer_size}
+use Rattle.memory.specs.Program.{serves, called, says}
+use Rattle.state.specs.Held.{limits_of}
+use Rattle.server.specs.Reached.{Reached}
+use Rattle.session.specs.declared.run.Taken.{Taken}
+use Rattle.session.specs.declared.run.TooShort.{TooShort}
 
 -- the record of the answer to an event's bytes
-abbrev pub answer-record : List ℕ → List ℕ → List ℕ
-answer-record m bs = write-record (write-answer (says serves m (read-event bs)))
+abbrev pub answer_record : List ℕ → List ℕ → List ℕ
+answer_record m bs = write_record (write_answer (says serves m (read_event bs)))
 
 -- one event: the memory after it, and its answer's record at a place; what stands before it is as it was
-pub record Ran-one (m bs xs : List ℕ) (at : ℕ) (m′ ys : List ℕ) (r : ℕ) : Type 0 where
-  pub memory : m′ ≡ called serves m (read-event bs)
-  pub next : r ≡ at + length (answer-record m bs)
+pub record RanOne (m bs xs : List ℕ) (at : ℕ) (m' ys : List ℕ) (r : ℕ) : Type 0 where
+  pub memory : m' ≡ called serves m (read_event bs)
+  pub next : r ≡ at + length (answer_record m bs)
   pub room : r ≤ length ys
   pub long : length ys ≡ length xs
-  pub front : take r ys ≡ take at xs ++ answer-record m bs
-  pub reached : Reached (limits-of m′) m′
-  pub limits : limits-of m′ ≡ limits-of m
+  pub front : take r ys ≡ take at xs ++ answer_record m bs
+  pub reached : Reached (limits_of m') m'
+  pub limits : limits_of m' ≡ limits_of m
 
 -- memory after the events of these bytes, and the records of their answers; the last event first
-unfoldable pub memory-after : List ℕ → List (List ℕ) → List ℕ
-memory-after m [] = m
-memory-after m (b ∷ bs) = called serves (memory-after m bs) (read-event b)
+unfoldable pub memory_after : List ℕ → List (List ℕ) → List ℕ
+memory_after m [] = m
+memory_after m (b ∷ bs) = called serves (memory_after m bs) (read_event b)
 
-unfoldable pub answers-of : List ℕ → List (List ℕ) → List ℕ
-answers-of m [] = []
-answers-of m (b ∷ bs) = answers-of m bs ++ answer-record (memory-after m bs) b
+unfoldable pub answers_of : List ℕ → List (List ℕ) → List ℕ
+answers_of m [] = []
+answers_of m (b ∷ bs) = answers_of m bs ++ answer_record (memory_after m bs) b
 
 -- records of these stand one after the other, up to a place
 unfoldable pub Stand : List ℕ → ℕ → List (List ℕ) → Type 0
 Stand rs at [] = at ≡ 0
-Stand rs at (b ∷ bs) = (k : ℕ) × (Stand rs k bs × (read-text (drop k rs) ≡ got b (drop at rs)))
+Stand rs at (b ∷ bs) = (k : ℕ) × (Stand rs k bs × (read_text (drop k rs) ≡ got b (drop at rs)))
 
 -- these events were taken, so many, the memory is the program's after all of them, and their answers' records stand at the front of
 -- the bytes
-pub record Ran (m rs xs m′ ys : List ℕ) (t : Taken) : Type 0 where
+pub record Ran (m rs xs m' ys : List ℕ) (t : Taken) : Type 0 where
   pub events : List (List ℕ)
-  pub count : t .events ≡ length events
-  pub stand : Stand rs (t .read) events
-  pub within : t .read ≤ length rs
-  pub memory : m′ ≡ memory-after m events
-  pub answers : take (t .written) ys ≡ answers-of m events
-  pub room : t .written ≤ length ys
+  pub count : t.events ≡ length events
+  pub stand : Stand rs t.read events
+  pub within : t.read ≤ length rs
+  pub memory : m' ≡ memory_after m events
+  pub answers : take t.written ys ≡ answers_of m events
+  pub room : t.written ≤ length ys
   pub long : length ys ≡ length xs
-  pub reached : Reached (limits-of m′) m′
-  pub limits : limits-of m′ ≡ limits-of m
+  pub reached : Reached (limits_of m') m'
+  pub limits : limits_of m' ≡ limits_of m
 
 -- how many bytes the record of the longest answer has
-abbrev pub longest-record : List ℕ → ℕ
-longest-record m = 8 + answer-size (limits-of m)
+abbrev pub longest_record : List ℕ → ℕ
+longest_record m = 8 + answer_size (limits_of m)
 
 -- and no more could be taken: where a whole record is left, the bytes have no room for the record of a longest answer
 abbrev pub Ended : List ℕ → List ℕ → List ℕ → Taken → Type 0
-Ended m rs ys t = is-got (read-text (drop (t .read) rs)) ≡ true → length ys < t .written + longest-record m
+Ended m rs ys t = is_got (read_text (drop t.read rs)) ≡ true → length ys < t.written + longest_record m
 
 -- THE PROMISE OF A SESSION: all that could be taken was, or there was no room from the start, and nothing changed
 abbrev pub Session : List ℕ → List ℕ → List ℕ → List ℕ → List ℕ → Result Taken TooShort → Type 0
-Session m rs xs m′ ys (Ok t) = (longest-record m ≤ length xs) × Ran m rs xs m′ ys t × Ended m rs ys t
-Session m rs xs m′ ys (Err x) = (length xs < longest-record m) × (x .needed ≡ longest-record m) × (m′ ≡ m) × (ys ≡ xs)
+Session m rs xs m' ys (Ok t) = (longest_record m ≤ length xs) × Ran m rs xs m' ys t × Ended m rs ys t
+Session m rs xs m' ys (Err x) = (length xs < longest_record m) × (x.needed ≡ longest_record m) × (m' ≡ m) × (ys ≡ xs)

@@ -1,13 +1,12 @@
 // Events from a buffer of records, each its length and its bytes; their answers go to another as records. What `serve` calls.
-ghost use mathlib.Core.Path.{_≡_};
-ghost use Prim.Native.Nat.{_+_, _≤_, _<_};
-ghost use lib.ListN.{length, drop};
-ghost use Rattle·wire.specs.Read.{read-text, got};
-ghost use Rattle·wire.specs.Sizes.{answer-size};
-ghost use Rattle·wire_read.specs.Means.{Text-in, text-of};
-ghost use Rattle·state.specs.Held.{limits-of};
-ghost use Rattle·server.specs.Reached.{Reached};
-ghost use Rattle·session·specs.Running.{longest-record, Ended, Ran, Ran-one, Session};
+ghost use Rattle.std.specs.Prelude.{◌≡◌, ◌+◌, ◌<◌, ◌≤◌, length};
+ghost use Rattle.wire.specs.Read.{read_text, got};
+ghost use Rattle.wire.specs.Sizes.{answer_size};
+ghost use Rattle.wire_read.specs.Means.{TextIn, text_of};
+ghost use Rattle.state.specs.Held.{limits_of};
+ghost use Rattle.server.specs.Reached.{Reached};
+ghost use Rattle.session.specs.Running.{longest_record, Ended, Ran, RanOne, Session};
+
 use server::open::answer_bytes;
 use server::step::step;
 use state::limits::limits;
@@ -32,11 +31,11 @@ pub struct TooShort {
 
 // One event: its answer is written past the room for its length. Returns the place after it.
 fn run_one(mem: &mut [u64], records: &[u8], event: Text, out: &mut [u8], at: usize) -> usize
-    requires reached { ⌜ Reached (limits-of (now mem)) (now mem) ⌝ }
-    requires event { ⌜ Text-in (now records) event ⌝ }
-    requires room { ⌜ at + 8 + answer-size (limits-of (now mem)) ≤ length (now out) ⌝ }
-    ensures { λ r. ⌜ Ran-one (now (mem .entry)) (text-of (now (records .entry)) event) (now (out .entry)) at
-        (now (mem .exit)) (now (out .exit)) r ⌝ }
+    requires reached { Reached (limits_of mem.old) mem.old }
+    requires event { TextIn records.now event }
+    requires room { at + 8 + answer_size (limits_of mem.old) ≤ length out.old }
+    ensures { RanOne mem.old (text_of records.now event) out.old at
+        mem.new out.new result }
 {
     let first = at + 8;
     let from = event.at;
@@ -49,8 +48,8 @@ fn run_one(mem: &mut [u64], records: &[u8], event: Text, out: &mut [u8], at: usi
 
 // How many bytes the record of the longest answer has.
 fn longest(mem: &[u64]) -> usize
-    requires reached { ⌜ Reached (limits-of (now mem)) (now mem) ⌝ }
-    ensures { λ r. ⌜ r ≡ longest-record (now (mem .entry)) ⌝ }
+    requires reached { Reached (limits_of mem.now) mem.now }
+    ensures { result ≡ longest_record mem.now }
 {
     let l = limits(mem);
     8 + answer_bytes(l)
@@ -58,10 +57,10 @@ fn longest(mem: &[u64]) -> usize
 
 // Whole records are taken while there is room for so many bytes, the record of a longest answer.
 fn take_all(mem: &mut [u64], records: &[u8], out: &mut [u8], size: usize) -> Taken
-    requires reached { ⌜ Reached (limits-of (now mem)) (now mem) ⌝ }
-    requires size { ⌜ size ≡ longest-record (now mem) ⌝ }
-    ensures ran { λ r. ⌜ Ran (now (mem .entry)) (now (records .entry)) (now (out .entry)) (now (mem .exit)) (now (out .exit)) r ⌝ }
-    ensures ended { λ r. ⌜ Ended (now (mem .entry)) (now (records .entry)) (now (out .exit)) r ⌝ }
+    requires reached { Reached (limits_of mem.old) mem.old }
+    requires size { size ≡ longest_record mem.old }
+    ensures ran { Ran mem.old records.now out.old mem.new out.new result }
+    ensures ended { Ended mem.old records.now out.new result }
 {
     let mut done = Taken {
         events: 0,
@@ -86,8 +85,8 @@ fn take_all(mem: &mut [u64], records: &[u8], out: &mut [u8], size: usize) -> Tak
 
 // Takes whole records as long as there is room, or says how many bytes `out` needs, and changes nothing.
 pub fn run(mem: &mut [u64], records: &[u8], out: &mut [u8]) -> Result<Taken, TooShort>
-    requires reached { ⌜ Reached (limits-of (now mem)) (now mem) ⌝ }
-    ensures { λ r. ⌜ Session (now (mem .entry)) (now (records .entry)) (now (out .entry)) (now (mem .exit)) (now (out .exit)) r ⌝ }
+    requires reached { Reached (limits_of mem.old) mem.old }
+    ensures { Session mem.old records.now out.old mem.new out.new result }
 {
     let needed = longest(mem);
     if out.len() < needed {

@@ -1,9 +1,9 @@
 // The limits of a server as words of a command line, and what is wrong with them.
-ghost use Rattle·std.specs.Results.{Cases};
-ghost use Rattle·servers.specs.Opened.{limits-of};
-ghost use Rattle·servers.specs.Promise.{Good-limits, all};
-use servers::limits::Limits;
-use servers::limits::Unfit;
+ghost use Rattle.std.specs.Prelude.{IfOk};
+ghost use Rattle.servers.specs.Opened.{limits_of};
+ghost use Rattle.servers.specs.Promise.{GoodLimits, all};
+
+use servers::limits::{Limits, Unfit};
 use std::fmt;
 
 // Which word of the command line.
@@ -21,7 +21,7 @@ pub enum Complaint {
     OutOfRange(Word),
 }
 
-pub impl fmt::Display for Word as WordDisplay {
+impl fmt::Display for Word {
     fn fmt<W: fmt::Write>(&self, f: &mut fmt::Formatter<W>) -> fmt::Result {
         let name = match self {
             Word::Servers => "SERVERS",
@@ -33,7 +33,7 @@ pub impl fmt::Display for Word as WordDisplay {
     }
 }
 
-pub impl fmt::Display for Complaint as ComplaintDisplay {
+impl fmt::Display for Complaint {
     fn fmt<W: fmt::Write>(&self, f: &mut fmt::Formatter<W>) -> fmt::Result {
         match self {
             Complaint::NotANumber(word) => write!(f, "{word} is not a whole number below 2^64"),
@@ -57,7 +57,7 @@ fn number(word: Word, text: &str) -> Result<u64, Complaint> {
 
 // The limits that these numbers are, or the first that is out of its range.
 fn fitted(servers: u64, me: u64, clients: u64, room: u64) -> Result<Limits, Complaint>
-    ensures { λ r. ⌜ Cases r (λ l. Good-limits all (limits-of all l)) (λ _. Unit {0}) ⌝ }
+    ensures { IfOk result (λ l. GoodLimits all (limits_of all l)) }
 {
     match Limits::new(servers, me, clients, room) {
         Ok(l) => Ok(l),
@@ -70,7 +70,7 @@ fn fitted(servers: u64, me: u64, clients: u64, room: u64) -> Result<Limits, Comp
 
 // The limits that four words say, or the first complaint.
 pub fn limits(servers: &str, me: &str, clients: &str, room: &str) -> Result<Limits, Complaint>
-    ensures { λ r. ⌜ Cases r (λ l. Good-limits all (limits-of all l)) (λ _. Unit {0}) ⌝ }
+    ensures { IfOk result (λ l. GoodLimits all (limits_of all l)) }
 {
     let servers = number(Word::Servers, servers)?;
     let me = number(Word::Me, me)?;
@@ -82,51 +82,60 @@ pub fn limits(servers: &str, me: &str, clients: &str, room: &str) -> Result<Limi
 #[cfg(test)]
 mod tests {
     use super::*;
-    use servers::limits::LimitsDebug;
-    use servers::limits::LimitsPartialEq;
     use std::alloc::Global;
-    use std::test::*;
+    use std::process::Abort;
+    use std::test::Fail;
 
-    fn says(heap: Global, r: Result<Limits, Complaint>, text: &str) -> Result<(), Fail> {
+    fn says(
+        rt: &impl Abort,
+        heap: Global,
+        r: Result<Limits, Complaint>,
+        text: &str,
+    ) -> Result<(), Fail> {
         let Err(e) = r else {
             return Err(Fail::new("no complaint"));
         };
-        check_eq(e.to_string(heap)?.as_str(), text)
+        assert_eq!(rt; e.to_string(heap)?.as_str(), text);
+        Ok(())
     }
 
     #[test]
-    fn good_limits() -> Result<(), Fail> {
-        check_eq(
+    fn good_limits(rt: HostRuntime) {
+        assert_eq!(rt;
             limits("3", "0", "2", "3"),
             Ok(Limits {
                 servers: 3,
                 me: 0,
                 clients: 2,
                 room: 3,
-            }),
-        )?;
-        check(limits("16", "15", "4096", "65536").is_ok())?;
-        check(limits("2", "1", "1", "1").is_ok())
+            })
+        );
+        assert!(rt; limits("16", "15", "4096", "65536").is_ok());
+        assert!(rt; limits("2", "1", "1", "1").is_ok());
     }
 
     #[test]
-    fn words_that_are_no_numbers(rt: LibcRuntime) -> Result<(), Fail> {
+    fn words_that_are_no_numbers(rt: HostRuntime) -> Result<(), Fail> {
         says(
+            &rt,
             rt.alloc(),
             limits("three", "0", "2", "3"),
             "SERVERS is not a whole number below 2^64",
         )?;
         says(
+            &rt,
             rt.alloc(),
             limits("3", "", "2", "3"),
             "ME is not a whole number below 2^64",
         )?;
         says(
+            &rt,
             rt.alloc(),
             limits("3", "0", "-2", "3"),
             "CLIENTS is not a whole number below 2^64",
         )?;
         says(
+            &rt,
             rt.alloc(),
             limits("3", "0", "2", "18446744073709551616"),
             "ROOM is not a whole number below 2^64",
@@ -134,38 +143,45 @@ mod tests {
     }
 
     #[test]
-    fn numbers_out_of_range(rt: LibcRuntime) -> Result<(), Fail> {
+    fn numbers_out_of_range(rt: HostRuntime) -> Result<(), Fail> {
         says(
+            &rt,
             rt.alloc(),
             limits("1", "0", "2", "3"),
             "SERVERS must be 2 to 16",
         )?;
         says(
+            &rt,
             rt.alloc(),
             limits("17", "0", "2", "3"),
             "SERVERS must be 2 to 16",
         )?;
         says(
+            &rt,
             rt.alloc(),
             limits("3", "3", "2", "3"),
             "ME must be below SERVERS (servers are numbered from 0)",
         )?;
         says(
+            &rt,
             rt.alloc(),
             limits("3", "0", "0", "3"),
             "CLIENTS must be 1 to 4096",
         )?;
         says(
+            &rt,
             rt.alloc(),
             limits("3", "0", "4097", "3"),
             "CLIENTS must be 1 to 4096",
         )?;
         says(
+            &rt,
             rt.alloc(),
             limits("3", "0", "2", "0"),
             "ROOM must be 1 to 65536",
         )?;
         says(
+            &rt,
             rt.alloc(),
             limits("3", "0", "2", "65537"),
             "ROOM must be 1 to 65536",

@@ -1,29 +1,24 @@
 // The words of the head: term, vote, leader, role, votes, send, and how far the log is committed and applied. A vote, and a leader,
 // is 0 for none, or one more than the server's number.
-ghost use mathlib.Core.Path.{_≡_};
-ghost use mathlib.Core.Bool.{Bool, true, false, _&&_};
-ghost use mathlib.Core.List.{List, [], _∷_};
-ghost use Prim.Native.Nat.{ℕ, _+_, _-_, _*_, _<_, _≤_};
-ghost use lib.ListN.{length, getD, set};
-ghost use lib.Dec.{ltb, leb, eqb};
-ghost use Rattle·servers.specs.Server.{
+ghost use Rattle.std.specs.Prelude.{◌≡◌, ℕ, ◌+◌, ◌-◌, ◌*◌, ◌<◌, ◌≤◌, Bool, true, false, ◌&&◌, List, [], ◌∷◌, length, ◌==◌, slice_index};
+ghost use Rattle.servers.specs.Server.{
   State,
-  with-term,
+  with_term,
   advanced,
-  with-voted,
-  with-commit,
-  with-applied,
-  with-send,
+  with_voted,
+  with_commit,
+  with_applied,
+  with_send,
   following,
   wants,
   empty,
-  may-vote,
-  last-index,
-  last-of-all,
+  may_vote,
+  last_index,
+  last_of_all,
 };
-ghost use Rattle·memory.specs.Layout.{servers-in, me-in, room-in};
-ghost use Rattle·state·specs.Held.{Held, Becomes, limits-of, state-of};
-ghost use Rattle·state·specs.States.{with-kind, calmed};
+ghost use Rattle.memory.specs.Layout.{servers_in, me_in, room_in};
+ghost use Rattle.state.specs.Held.{Held, Becomes, limits_of, state_of};
+ghost use Rattle.state.specs.States.{with_kind, calmed};
 
 const ME: usize = 2;
 
@@ -57,67 +52,67 @@ impl Role {
 }
 
 pub fn term(mem: &[u64]) -> u64
-    requires held { ⌜ Held (now mem) ⌝ }
-    ensures value { λ r. ⌜ r ≡ state-of (now (mem .entry)) .term ⌝ }
-    ensures low { λ r. ⌜ r ≤ last-of-all ⌝ }
+    requires held { Held mem.now }
+    ensures value { result ≡ (state_of mem.now).term }
+    ensures low { result ≤ last_of_all }
 {
     mem[TERM]
 }
 
 pub fn commit(mem: &[u64]) -> u64
-    requires held { ⌜ Held (now mem) ⌝ }
-    ensures value { λ r. ⌜ r ≡ state-of (now (mem .entry)) .commit ⌝ }
-    ensures low { λ r. ⌜ r ≤ room-in (now (mem .entry)) ⌝ }
+    requires held { Held mem.now }
+    ensures value { result ≡ (state_of mem.now).commit }
+    ensures low { result ≤ room_in mem.now }
 {
     mem[COMMIT]
 }
 
 pub fn applied(mem: &[u64]) -> u64
-    requires held { ⌜ Held (now mem) ⌝ }
-    ensures value { λ r. ⌜ r ≡ state-of (now (mem .entry)) .applied ⌝ }
-    ensures low { λ r. ⌜ r ≤ room-in (now (mem .entry)) ⌝ }
+    requires held { Held mem.now }
+    ensures value { result ≡ (state_of mem.now).applied }
+    ensures low { result ≤ room_in mem.now }
 {
     mem[APPLIED]
 }
 
 // The length of the log, which is its last index.
 pub fn last_index(mem: &[u64]) -> u64
-    requires held { ⌜ Held (now mem) ⌝ }
-    ensures word { λ r. ⌜ r ≡ getD (now (mem .entry)) 10 0 ⌝ }
-    ensures last { λ r. ⌜ r ≡ last-index (state-of (now (mem .entry)) .log) ⌝ }
-    ensures low { λ r. ⌜ r ≤ room-in (now (mem .entry)) ⌝ }
+    requires held { Held mem.now }
+    ensures word { result ≡ slice_index mem.now 10 }
+    ensures last { result ≡ last_index (state_of mem.now).log }
+    ensures low { result ≤ room_in mem.now }
 {
     mem[LENGTH]
 }
 
 pub fn is_leader(mem: &[u64]) -> bool
-    requires held { ⌜ Held (now mem) ⌝ }
-    ensures { λ r. ⌜ r ≡ eqb (state-of (now (mem .entry)) .kind) 2 ⌝ }
+    requires held { Held mem.now }
+    ensures { result ≡ ((state_of mem.now).kind == 2) }
 {
     mem[ROLE] == Role::LEADER
 }
 
 pub fn is_candidate(mem: &[u64]) -> bool
-    requires held { ⌜ Held (now mem) ⌝ }
-    ensures { λ r. ⌜ r ≡ eqb (state-of (now (mem .entry)) .kind) 1 ⌝ }
+    requires held { Held mem.now }
+    ensures { result ≡ ((state_of mem.now).kind == 1) }
 {
     mem[ROLE] == Role::CANDIDATE
 }
 
 // Whether the server knows no leader, and gave its vote to nobody but h.
 pub fn may_vote(mem: &[u64], h: u64) -> bool
-    requires held { ⌜ Held (now mem) ⌝ }
-    requires here { ⌜ h < servers-in (now mem) ⌝ }
-    ensures { λ r. ⌜ r ≡ (empty (state-of (now (mem .entry)) .leader) && may-vote (state-of (now (mem .entry)) .voted) h) ⌝ }
+    requires held { Held mem.now }
+    requires here { h < servers_in mem.now }
+    ensures { result ≡ (empty (state_of mem.now).leader && may_vote (state_of mem.now).voted h) }
 {
     mem[LEADER] == 0 && (mem[VOTE] == 0 || mem[VOTE] == h + 1)
 }
 
 // A newer term: no vote yet, no leader known, and the server follows.
 pub fn take_term(mem: &mut [u64], t: u64)
-    requires held { ⌜ Held (now mem) ⌝ }
-    requires low { ⌜ t ≤ last-of-all ⌝ }
-    ensures { λ _. ⌜ Becomes (now (mem .entry)) (now (mem .exit)) (with-term t (state-of (now (mem .entry)))) ⌝ }
+    requires held { Held mem.old }
+    requires low { t ≤ last_of_all }
+    ensures { Becomes mem.old mem.new (with_term t (state_of mem.old)) }
 {
     mem[TERM] = t;
     mem[VOTE] = 0;
@@ -126,17 +121,17 @@ pub fn take_term(mem: &mut [u64], t: u64)
 }
 
 pub fn vote_for(mem: &mut [u64], h: u64)
-    requires held { ⌜ Held (now mem) ⌝ }
-    requires here { ⌜ h < servers-in (now mem) ⌝ }
-    ensures { λ _. ⌜ Becomes (now (mem .entry)) (now (mem .exit)) (with-voted h (state-of (now (mem .entry)))) ⌝ }
+    requires held { Held mem.old }
+    requires here { h < servers_in mem.old }
+    ensures { Becomes mem.old mem.new (with_voted h (state_of mem.old)) }
 {
     mem[VOTE] = h + 1;
 }
 
 pub fn follow(mem: &mut [u64], h: u64)
-    requires held { ⌜ Held (now mem) ⌝ }
-    requires here { ⌜ h < servers-in (now mem) ⌝ }
-    ensures { λ _. ⌜ Becomes (now (mem .entry)) (now (mem .exit)) (following h (state-of (now (mem .entry)))) ⌝ }
+    requires held { Held mem.old }
+    requires here { h < servers_in mem.old }
+    ensures { Becomes mem.old mem.new (following h (state_of mem.old)) }
 {
     mem[LEADER] = h + 1;
     mem[ROLE] = Role::FOLLOWER;
@@ -144,9 +139,9 @@ pub fn follow(mem: &mut [u64], h: u64)
 
 // A candidate of the next term, with its own vote.
 pub fn stand(mem: &mut [u64])
-    requires held { ⌜ Held (now mem) ⌝ }
-    requires more { ⌜ state-of (now mem) .term < last-of-all ⌝ }
-    ensures { λ _. ⌜ Becomes (now (mem .entry)) (now (mem .exit)) (wants (limits-of (now (mem .entry))) (state-of (now (mem .entry)))) ⌝ }
+    requires held { Held mem.old }
+    requires more { (state_of mem.old).term < last_of_all }
+    ensures { Becomes mem.old mem.new (wants (limits_of mem.old) (state_of mem.old)) }
 {
     let me = mem[ME];
     mem[TERM] = mem[TERM] + 1;
@@ -156,16 +151,16 @@ pub fn stand(mem: &mut [u64])
 }
 
 pub fn lead(mem: &mut [u64])
-    requires held { ⌜ Held (now mem) ⌝ }
-    ensures { λ _. ⌜ Becomes (now (mem .entry)) (now (mem .exit)) (with-kind 2 (state-of (now (mem .entry)))) ⌝ }
+    requires held { Held mem.old }
+    ensures { Becomes mem.old mem.new (with_kind 2 (state_of mem.old)) }
 {
     mem[ROLE] = Role::LEADER;
 }
 
 // What a restart sets back in the head.
 pub fn calm(mem: &mut [u64])
-    requires held { ⌜ Held (now mem) ⌝ }
-    ensures { λ _. ⌜ Becomes (now (mem .entry)) (now (mem .exit)) (calmed (limits-of (now (mem .entry))) (state-of (now (mem .entry)))) ⌝ }
+    requires held { Held mem.old }
+    ensures { Becomes mem.old mem.new (calmed (limits_of mem.old) (state_of mem.old)) }
 {
     mem[ROLE] = Role::FOLLOWER;
     mem[VOTES] = 0;
@@ -173,43 +168,43 @@ pub fn calm(mem: &mut [u64])
 }
 
 pub fn set_commit(mem: &mut [u64], c: u64)
-    requires held { ⌜ Held (now mem) ⌝ }
-    requires low { ⌜ c ≤ room-in (now mem) ⌝ }
-    ensures { λ _. ⌜ Becomes (now (mem .entry)) (now (mem .exit)) (with-commit c (state-of (now (mem .entry)))) ⌝ }
+    requires held { Held mem.old }
+    requires low { c ≤ room_in mem.old }
+    ensures { Becomes mem.old mem.new (with_commit c (state_of mem.old)) }
 {
     mem[COMMIT] = c;
 }
 
 // The applied index only grows.
 pub fn set_applied(mem: &mut [u64], a: u64)
-    requires held { ⌜ Held (now mem) ⌝ }
-    requires more { ⌜ state-of (now mem) .applied ≤ a ⌝ }
-    requires low { ⌜ a ≤ room-in (now mem) ⌝ }
-    ensures { λ _. ⌜ Becomes (now (mem .entry)) (now (mem .exit)) (with-applied a (state-of (now (mem .entry)))) ⌝ }
+    requires held { Held mem.old }
+    requires more { (state_of mem.old).applied ≤ a }
+    requires low { a ≤ room_in mem.old }
+    ensures { Becomes mem.old mem.new (with_applied a (state_of mem.old)) }
 {
     mem[APPLIED] = a;
 }
 
 // Whether there is reason to send entries.
 pub fn set_send(mem: &mut [u64], send: bool)
-    requires held { ⌜ Held (now mem) ⌝ }
-    ensures { λ _. ⌜ Becomes (now (mem .entry)) (now (mem .exit)) (with-send send (state-of (now (mem .entry)))) ⌝ }
+    requires held { Held mem.old }
+    ensures { Becomes mem.old mem.new (with_send send (state_of mem.old)) }
 {
     mem[SEND] = send as u64;
 }
 
 pub fn must_send(mem: &[u64]) -> bool
-    requires held { ⌜ Held (now mem) ⌝ }
-    ensures { λ r. ⌜ r ≡ state-of (now (mem .entry)) .send ⌝ }
+    requires held { Held mem.now }
+    ensures { result ≡ (state_of mem.now).send }
 {
     mem[SEND] == 1
 }
 
 // A term that is newer is taken; any other changes nothing.
 pub fn advance(mem: &mut [u64], t: u64)
-    requires held { ⌜ Held (now mem) ⌝ }
-    requires low { ⌜ t ≤ last-of-all ⌝ }
-    ensures { λ _. ⌜ Becomes (now (mem .entry)) (now (mem .exit)) (advanced t (state-of (now (mem .entry)))) ⌝ }
+    requires held { Held mem.old }
+    requires low { t ≤ last_of_all }
+    ensures { Becomes mem.old mem.new (advanced t (state_of mem.old)) }
 {
     if term(mem) < t {
         take_term(mem, t);

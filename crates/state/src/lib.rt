@@ -1,5 +1,5 @@
 // A server's state in its words: what each word holds, read and written, proved against the states of the definitions.
-ghost use Rattle·state·specs.Held.{Always-held};
+ghost use Rattle.state.specs.Held.{AlwaysHeld};
 
 pub mod head;
 pub mod limits;
@@ -10,7 +10,7 @@ pub mod votes;
 
 // Whatever readable events came, the server's memory is held, and holds the state of the definitions.
 pub fn always_held() -> u8
-    ensures { λ _. ⌜ Always-held ⌝ }
+    ensures { AlwaysHeld }
 {
     0
 }

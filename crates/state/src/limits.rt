@@ -1,10 +1,8 @@
 // The limits of a server, read from its memory, and what follows from them.
-ghost use mathlib.Core.Path.{_≡_};
-ghost use Prim.Native.Nat.{ℕ, _+_, _*_, _/_, _^_, _<_, _≤_};
-ghost use lib.Dec.{ltb};
-ghost use lib.ListN.{length, getD};
-ghost use Rattle·memory.specs.Layout.{servers-in, log-at, store-at, cache-at};
-ghost use Rattle·state·specs.Held.{Held, limits-held};
+ghost use Rattle.std.specs.Prelude.{◌≡◌, ℕ, ◌+◌, ◌*◌, ◌/◌, ◌^◌, ◌<◌, ◌≤◌, length, nat_lt};
+ghost use Rattle.memory.specs.Layout.{servers_in, log_at, store_at, cache_at};
+ghost use Rattle.state.specs.Held.{Held, limits_held};
+
 use servers::limits::Limits;
 
 // How many words the head has, and where the limits stand in it.
@@ -19,8 +17,8 @@ const CLIENTS: usize = 3;
 const ROOM: usize = 4;
 
 pub fn limits(mem: &[u64]) -> Limits
-    requires held { ⌜ Held (now mem) ⌝ }
-    ensures { λ r. ⌜ r ≡ limits-held (now (mem .entry)) ⌝ }
+    requires held { Held mem.now }
+    ensures { result ≡ limits_held mem.now }
 {
     Limits {
         servers: mem[SERVERS],
@@ -31,38 +29,38 @@ pub fn limits(mem: &[u64]) -> Limits
 }
 
 pub fn servers(mem: &[u64]) -> usize
-    requires held { ⌜ Held (now mem) ⌝ }
-    ensures { λ r. ⌜ r ≡ servers-in (now (mem .entry)) ⌝ }
+    requires held { Held mem.now }
+    ensures { result ≡ servers_in mem.now }
 {
     mem[SERVERS] as usize
 }
 
 // Whether so many servers are more than half.
 pub fn is_majority(limits: Limits, many: u32) -> bool
-    requires { ⌜ limits .servers ≤ 16 ⌝ }
-    ensures { λ r. ⌜ r ≡ ltb (limits .servers / 2) many ⌝ }
+    requires { limits.servers ≤ 16 }
+    ensures { result ≡ nat_lt (limits.servers / 2) many }
 {
     limits.majority() as u32 <= many
 }
 
 // Where the clients' sessions, the log and the store begin.
 pub fn sessions_at(mem: &[u64]) -> usize
-    requires held { ⌜ Held (now mem) ⌝ }
-    ensures { λ r. ⌜ r ≡ cache-at (now (mem .entry)) ⌝ }
+    requires held { Held mem.now }
+    ensures { result ≡ cache_at mem.now }
 {
     HEAD + 2 * mem[SERVERS] as usize
 }
 
 pub fn log_at(mem: &[u64]) -> usize
-    requires held { ⌜ Held (now mem) ⌝ }
-    ensures { λ r. ⌜ r ≡ log-at (now (mem .entry)) ⌝ }
+    requires held { Held mem.now }
+    ensures { result ≡ log_at mem.now }
 {
     HEAD + 2 * mem[SERVERS] as usize + 68 * mem[CLIENTS] as usize
 }
 
 pub fn store_at(mem: &[u64]) -> usize
-    requires held { ⌜ Held (now mem) ⌝ }
-    ensures { λ r. ⌜ r ≡ store-at (now (mem .entry)) ⌝ }
+    requires held { Held mem.now }
+    ensures { result ≡ store_at mem.now }
 {
     HEAD + 2 * mem[SERVERS] as usize + 68 * mem[CLIENTS] as usize + 80 * mem[ROOM] as usize
 }

@@ -1,123 +1,116 @@
 -- A region as the code reads it: the index word at p, and the name and the text of the p-th item.
-use mathlib.Core.Path.{_≡_, refl, sym, ap, subst, _∙_}
-use mathlib.Core.Bool.{Bool, true, false, _&&_}
-use mathlib.Core.List.{List, [], _∷_, _++_}
-use mathlib.Core.Logic.{⊎-elim}
-use Prim.Native.Nat.{ℕ, zero, suc, _+_, _*_, _-_, _<_, _≤_}
-use lib.Dec.{ltb}
-use lib.ListN.{length, getD, take, drop}
-use native.Mathlib.Omega.{arith}
-use Rattle·std.proofs.shelf.Lists.{getD-take, getD-drop, drop-drop}
-use Rattle·std.proofs.shelf.Tests.{both-ways, cases-lt, cases-bool, lt-ltb, le-ltb}
-use Rattle·servers.specs.Store.{pick, same-text, less-text, Item, Store}
-use Rattle·texts.specs.Words.{Text, text-words, text-in}
-use Rattle·texts.specs.Order.{less-words}
-use Rattle·texts.proofs.Order.{words-order, words-same}
-use Rattle·store·specs.Region.{blank, rows-words, region-of, count, capacity, index-of, rows-of, items-of, place, found, Good-item, Sorted}
-use Rattle·store·specs.Calls.{Held, Of-text}
-use Rattle·servers.proofs.Tests.{bool-by}
-use Rattle·store·proofs.Order.{less-trans}
-use Rattle·store·proofs.Stores.{place-is, sorted-at, found-at}
-use Rattle·store·proofs.Rows.{name-at, text-at, good-at}
-use Rattle·store·proofs.Regions.{rows-part, items-count, item-at, row-below, long}
+use Rattle.std.proofs.Common.{◌≡◌, ℕ, zero, suc, ◌+◌, ◌-◌, ◌*◌, ◌<◌, ◌≤◌, Bool, true, false, ◌&&◌, ltb, List, [], ◌∷◌, ◌++◌, length, get_or, take, drop, sym, refl, ap, ◌∙◌, subst, ⊎_elim, arith}
+use Rattle.std.proofs.lemmas.List.{get_or-take, get_or-drop, drop-drop}
+use Rattle.std.proofs.lemmas.Bool.{both_ways, cases_lt, cases_Bool, lt-ltb, le-ltb}
+use Rattle.servers.specs.Store.{pick, same_text, less_text, Item, Store}
+use Rattle.texts.specs.Words.{Text, text_words, text_in}
+use Rattle.texts.specs.Order.{less_words}
+use Rattle.texts.proofs.Order.{words_order, words_same}
+use Rattle.store.specs.Region.{blank, rows_words, region_of, count, capacity, index_of, rows_of, items_of, place, found, GoodItem, Sorted}
+use Rattle.store.specs.Calls.{Held, OfText}
+use Rattle.servers.proofs.Tests.{bool_by}
+use Rattle.store.proofs.Order.{less_trans}
+use Rattle.store.proofs.Stores.{place_is, sorted_at, found_at}
+use Rattle.store.proofs.Rows.{name_at, text_at, good_at}
+use Rattle.store.proofs.Regions.{rows_part, items_count, item_at, row_below, long}
 
 -- a region's length, and that the counts are within
-pub held-long : (r : List ℕ) → Held r → length r ≡ 2 + 43 * capacity r
-held-long r o = long (capacity r) r o
+pub held_long : (r : List ℕ) → Held r → length r ≡ 2 + 43 * capacity r
+held_long r o = long (capacity r) r o
 
-pub held-few : (r : List ℕ) → Held r → count r ≤ capacity r
-held-few r o = o .parts .few
+pub held_few : (r : List ℕ) → Held r → count r ≤ capacity r
+held_few r o = o.parts.few
 
-pub rows-tail : (r : List ℕ) → Held r → drop (2 + capacity r) r ≡ rows-words (rows-of r)
-rows-tail r o =
-    ap (drop (2 + capacity r)) (o .whole) ∙ rows-part (capacity r) (count r) (index-of r) (rows-of r) (o .parts .index)
+pub rows_tail : (r : List ℕ) → Held r → drop (2 + capacity r) r ≡ rows_words (rows_of r)
+rows_tail r o =
+    ap (drop (2 + capacity r)) o.whole ∙ rows_part (capacity r) (count r) (index_of r) (rows_of r) o.parts.index
 
-pub index-word : (r : List ℕ) (p : ℕ) → p < capacity r → getD (index-of r) p 0 ≡ getD r (2 + p) 0
-index-word r p h = getD-take (capacity r) (drop 2 r) p 0 h ∙ getD-drop 2 r p 0
+pub index_word : (r : List ℕ) (p : ℕ) → p < capacity r → get_or (index_of r) p 0 ≡ get_or r (2 + p) 0
+index_word r p h = get_or-take (capacity r) (drop 2 r) p 0 h ∙ get_or-drop 2 r p 0
 
-pub index-below : (r : List ℕ) (p : ℕ) → Held r → p < capacity r → getD (index-of r) p 0 < capacity r
-index-below r p o h = row-below (capacity r) (count r) (index-of r) (rows-of r) (o .parts) p h
+pub index_below : (r : List ℕ) (p : ℕ) → Held r → p < capacity r → get_or (index_of r) p 0 < capacity r
+index_below r p o h = row_below (capacity r) (count r) (index_of r) (rows_of r) o.parts p h
 
 -- the p-th item
 abbrev pub Nth : List ℕ → ℕ → Item
-Nth r p = getD (items-of r) p blank
+Nth r p = get_or (items_of r) p blank
 
-abbrev pub Row-place : List ℕ → ℕ → ℕ
-Row-place r p = 2 + capacity r + 42 * getD (index-of r) p 0
+abbrev pub RowPlace : List ℕ → ℕ → ℕ
+RowPlace r p = 2 + capacity r + 42 * get_or (index_of r) p 0
 
-pub nth-is : (r : List ℕ) (p : ℕ) → Held r → p < count r → Nth r p ≡ getD (rows-of r) (getD (index-of r) p 0) blank
-nth-is r p o h = item-at (capacity r) (count r) (index-of r) (rows-of r) (o .parts) p h
+pub nth_is : (r : List ℕ) (p : ℕ) → Held r → p < count r → Nth r p ≡ get_or (rows_of r) (get_or (index_of r) p 0) blank
+nth_is r p o h = item_at (capacity r) (count r) (index_of r) (rows_of r) o.parts p h
 
-pub nth-good : (r : List ℕ) (p : ℕ) → Held r → p < count r → Good-item (Nth r p)
-nth-good r p o h = subst Good-item (sym (nth-is r p o h)) (good-at (rows-of r) (getD (index-of r) p 0) (o .parts .good))
+pub nth_good : (r : List ℕ) (p : ℕ) → Held r → p < count r → GoodItem (Nth r p)
+nth_good r p o h = subst GoodItem (sym (nth_is r p o h)) (good_at (rows_of r) (get_or (index_of r) p 0) o.parts.good)
 
-row-within : (r : List ℕ) (p : ℕ) → Held r → p < count r → getD (index-of r) p 0 < length (rows-of r)
-row-within r p o h = let f = held-few r o in let b = index-below r p o (omega arith) in let w = o .parts .rows in omega arith
+row_within : (r : List ℕ) (p : ℕ) → Held r → p < count r → get_or (index_of r) p 0 < length (rows_of r)
+row_within r p o h = let f = held_few r o in let b = index_below r p o (omega arith) in let w = o.parts.rows in omega arith
 
-pub name-in : (r : List ℕ) (p : ℕ) → Held r → p < count r → take 9 (drop (Row-place r p) r) ≡ text-words 8 (Nth r p .key)
-name-in r p o h =
-    let i : ℕ = getD (index-of r) p 0 in
-    ap (take 9) (sym (drop-drop (42 * i) (2 + capacity r) r) ∙ ap (drop (42 * i)) (rows-tail r o))
-    ∙ (name-at (rows-of r) i (row-within r p o h) ∙ ap (λ (x : Item). text-words 8 (x .key)) (sym (nth-is r p o h)))
+pub name_in : (r : List ℕ) (p : ℕ) → Held r → p < count r → take 9 (drop (RowPlace r p) r) ≡ text_words 8 (Nth r p).key
+name_in r p o h =
+    let i : ℕ = get_or (index_of r) p 0 in
+    ap (take 9) (sym (drop-drop (42 * i) (2 + capacity r) r) ∙ ap (drop (42 * i)) (rows_tail r o))
+    ∙ (name_at (rows_of r) i (row_within r p o h) ∙ ap (λ (x : Item). text_words 8 x.key) (sym (nth_is r p o h)))
 
-pub text-part : (r : List ℕ) (p : ℕ) → Held r → p < count r → take 33 (drop (Row-place r p + 9) r) ≡ text-words 32 (Nth r p .value)
-text-part r p o h =
-    let i : ℕ = getD (index-of r) p 0 in
-    let e : Row-place r p + 9 ≡ 2 + capacity r + (42 * i + 9) = omega arith in
+pub text_part : (r : List ℕ) (p : ℕ) → Held r → p < count r → take 33 (drop (RowPlace r p + 9) r) ≡ text_words 32 (Nth r p).value
+text_part r p o h =
+    let i : ℕ = get_or (index_of r) p 0 in
+    let e : RowPlace r p + 9 ≡ 2 + capacity r + (42 * i + 9) = omega arith in
     ap (λ (k : ℕ). take 33 (drop k r)) e
-    ∙ (ap (take 33) (sym (drop-drop (42 * i + 9) (2 + capacity r) r) ∙ ap (drop (42 * i + 9)) (rows-tail r o))
-    ∙ (text-at (rows-of r) i (row-within r p o h) ∙ ap (λ (x : Item). text-words 32 (x .value)) (sym (nth-is r p o h))))
+    ∙ (ap (take 33) (sym (drop-drop (42 * i + 9) (2 + capacity r) r) ∙ ap (drop (42 * i + 9)) (rows_tail r o))
+    ∙ (text_at (rows_of r) i (row_within r p o h) ∙ ap (λ (x : Item). text_words 32 x.value) (sym (nth_is r p o h))))
 
 -- names compared by their words
-pub less-is : (a k ws : List ℕ) → a ≡ text-words 8 k → Text 64 k → Of-text 8 ws → less-words a ws ≡ less-text k (text-in ws)
-less-is a k ws e g o =
-    ap (λ (x : List ℕ). less-words x ws) e
-    ∙ (ap (λ (y : List ℕ). less-words (text-words 8 k) y) (o .is) ∙ sym (words-order 8 k (text-in ws) g (o .fits)))
+pub less_is : (a k ws : List ℕ) → a ≡ text_words 8 k → Text 64 k → OfText 8 ws → less_words a ws ≡ less_text k (text_in ws)
+less_is a k ws e g o =
+    ap (λ (x : List ℕ). less_words x ws) e
+    ∙ (ap (λ (y : List ℕ). less_words (text_words 8 k) y) o.is ∙ sym (words_order 8 k (text_in ws) g o.fits))
 
-pub same-is : (a k ws : List ℕ) → a ≡ text-words 8 k → Text 64 k → Of-text 8 ws → same-text a ws ≡ same-text k (text-in ws)
-same-is a k ws e g o =
-    ap (λ (x : List ℕ). same-text x ws) e
-    ∙ (ap (λ (y : List ℕ). same-text (text-words 8 k) y) (o .is) ∙ sym (words-same 8 k (text-in ws) g (o .fits)))
+pub same_is : (a k ws : List ℕ) → a ≡ text_words 8 k → Text 64 k → OfText 8 ws → same_text a ws ≡ same_text k (text_in ws)
+same_is a k ws e g o =
+    ap (λ (x : List ℕ). same_text x ws) e
+    ∙ (ap (λ (y : List ℕ). same_text (text_words 8 k) y) o.is ∙ sym (words_same 8 k (text_in ws) g o.fits))
 
 -- a half less, in the one way or the other
-pub below-mid : (s : Store) (k : List ℕ) (m j : ℕ) → Sorted s → m < length s → j < m + 1 → less-text (getD s m blank .key) k ≡ true
-    → less-text (getD s j blank .key) k ≡ true
-below-mid s k m j o h l e =
-    ⊎-elim (λ (p : j < m). less-trans (getD s j blank .key) (getD s m blank .key) k (sorted-at s j m o p h) e)
-    (λ (p : m ≤ j). let q : j ≡ m = omega arith in rw q e) (cases-lt j m)
+pub below_mid : (s : Store) (k : List ℕ) (m j : ℕ) → Sorted s → m < length s → j < m + 1 → less_text (get_or s m blank).key k ≡ true
+    → less_text (get_or s j blank).key k ≡ true
+below_mid s k m j o h l e =
+    ⊎_elim (λ (p : j < m). less_trans (get_or s j blank).key (get_or s m blank).key k (sorted_at s j m o p h) e)
+    (λ (p : m ≤ j). let q : j ≡ m = omega arith in rw q e) (cases_lt j m)
 
-pub above-mid : (s : Store) (k : List ℕ) (m j : ℕ) → Sorted s → m ≤ j → j < length s → less-text (getD s m blank .key) k ≡ false
-    → less-text (getD s j blank .key) k ≡ false
-above-mid s k m j o h l e =
-    ⊎-elim
+pub above_mid : (s : Store) (k : List ℕ) (m j : ℕ) → Sorted s → m ≤ j → j < length s → less_text (get_or s m blank).key k ≡ false
+    → less_text (get_or s j blank).key k ≡ false
+above_mid s k m j o h l e =
+    ⊎_elim
     (λ (p : m < j).
-    ⊎-elim
-    (λ t. absurd (both-ways (less-text (getD s m blank .key) k) e
-    (less-trans (getD s m blank .key) (getD s j blank .key) k (sorted-at s m j o p l) t)))
-    (λ f. f) (cases-bool (less-text (getD s j blank .key) k)))
-    (λ (p : j ≤ m). let q : j ≡ m = omega arith in rw q e) (cases-lt m j)
+    ⊎_elim
+    (λ t. absurd (both_ways (less_text (get_or s m blank).key k) e
+    (less_trans (get_or s m blank).key (get_or s j blank).key k (sorted_at s m j o p l) t)))
+    (λ f. f) (cases_Bool (less_text (get_or s j blank).key k)))
+    (λ (p : j ≤ m). let q : j ≡ m = omega arith in rw q e) (cases_lt m j)
 
-pub place-found : (k : List ℕ) (r : List ℕ) (lo : ℕ) → Held r → lo ≤ count r
-    → ((j : ℕ) → j < lo → less-text (Nth r j .key) k ≡ true) → ((j : ℕ) → lo ≤ j → j < count r → less-text (Nth r j .key) k ≡ false)
-    → lo ≡ place k (items-of r)
-place-found k r lo o h f g =
-    let m = items-count (capacity r) r o in
-    sym (place-is k (items-of r) lo (omega arith) f (λ l. g lo (omega arith) (omega arith)) .0)
+pub place_found : (k : List ℕ) (r : List ℕ) (lo : ℕ) → Held r → lo ≤ count r
+    → ((j : ℕ) → j < lo → less_text (Nth r j).key k ≡ true) → ((j : ℕ) → lo ≤ j → j < count r → less_text (Nth r j).key k ≡ false)
+    → lo ≡ place k (items_of r)
+place_found k r lo o h f g =
+    let m = items_count (capacity r) r o in
+    sym (place_is k (items_of r) lo (omega arith) f (λ l. g lo (omega arith) (omega arith))).0
 
 -- whether it is there, by the item at its place
-spot-there : (k r : List ℕ) (p : ℕ) → Held r → p ≡ place k (items-of r)
-    → found k (items-of r) ≡ (ltb p (count r) && same-text (Nth r p .key) k)
-spot-there k r p o e =
-    found-at k (items-of r)
-    ∙ (ap (λ (n : ℕ). ltb (place k (items-of r)) n && same-text (Nth r (place k (items-of r)) .key) k) (items-count (capacity r) r o)
-    ∙ ap (λ (q : ℕ). ltb q (count r) && same-text (Nth r q .key) k) (sym e))
+spot_there : (k r : List ℕ) (p : ℕ) → Held r → p ≡ place k (items_of r)
+    → found k (items_of r) ≡ (ltb p (count r) && same_text (Nth r p).key k)
+spot_there k r p o e =
+    found_at k (items_of r)
+    ∙ (ap (λ (n : ℕ). ltb (place k (items_of r)) n && same_text (Nth r (place k (items_of r))).key k) (items_count (capacity r) r o)
+    ∙ ap (λ (q : ℕ). ltb q (count r) && same_text (Nth r q).key k) (sym e))
 
-pub spot-within : (k r : List ℕ) (p : ℕ) (b : Bool) → Held r → p ≡ place k (items-of r) → p < count r → b ≡ same-text (Nth r p .key) k
-    → b ≡ found k (items-of r)
-spot-within k r p b o e h f =
-    f ∙ sym (spot-there k r p o e ∙ ap (λ (t : Bool). t && same-text (Nth r p .key) k) (lt-ltb p (count r) h))
+pub spot_within : (k r : List ℕ) (p : ℕ) (b : Bool) → Held r → p ≡ place k (items_of r) → p < count r → b ≡ same_text (Nth r p).key k
+    → b ≡ found k (items_of r)
+spot_within k r p b o e h f =
+    f ∙ sym (spot_there k r p o e ∙ ap (λ (t : Bool). t && same_text (Nth r p).key k) (lt-ltb p (count r) h))
 
-pub spot-past : (k r : List ℕ) (p : ℕ) → Held r → p ≡ place k (items-of r) → count r ≤ p → ltb p (count r) ≡ found k (items-of r)
-spot-past k r p o e h =
+pub spot_past : (k r : List ℕ) (p : ℕ) → Held r → p ≡ place k (items_of r) → count r ≤ p → ltb p (count r) ≡ found k (items_of r)
+spot_past k r p o e h =
     let f = le-ltb p (count r) h in
-    f ∙ sym (spot-there k r p o e ∙ ap (λ (t : Bool). t && same-text (Nth r p .key) k) f)
+    f ∙ sym (spot_there k r p o e ∙ ap (λ (t : Bool). t && same_text (Nth r p).key k) f)

@@ -1,21 +1,18 @@
 // The five commands on names and texts as bytes: they are packed into words, and done.
-ghost use mathlib.Core.Path.{_≡_};
-ghost use Prim.Native.Nat.{ℕ, _<_, _≤_};
-ghost use lib.ListN.{length};
-ghost use Rattle·servers.specs.Store.{get, put, remove, swap, drop-if, look};
-ghost use Rattle·texts.specs.Words.{All, text-in, perhaps-in};
-ghost use Rattle·texts.specs.Means.{perhaps-of};
-ghost use Rattle·store·specs.Region.{capacity, items-of};
-ghost use Rattle·store·specs.Calls.{Held, Of-text, Of-perhaps, Ready, Does, text-of-words};
-use crate::commands;
-use crate::find;
-use crate::reply::tell_none;
-use crate::reply::tell_text;
+ghost use Rattle.std.specs.Prelude.{◌≡◌, ℕ, ◌<◌, ◌≤◌, length};
+ghost use Rattle.servers.specs.Store.{get, put, remove, swap, drop_if, look};
+ghost use Rattle.texts.specs.Words.{All, text_in, perhaps_in};
+ghost use Rattle.texts.specs.Means.{perhaps_of};
+ghost use Rattle.store.specs.Region.{capacity, items_of};
+ghost use Rattle.store.specs.Calls.{Held, OfText, OfPerhaps, Ready, Does, text_of_words};
+
+use crate::reply::{tell_none, tell_text};
+use crate::{commands, find};
 
 fn name_words(name: &[u8]) -> [u64; 9]
-    requires { ⌜ length (now name) ≤ 64 ⌝ }
-    ensures words { λ r. ⌜ Of-text 8 r ⌝ }
-    ensures text { λ r. ⌜ text-in r ≡ now (name .entry) ⌝ }
+    requires { length name.now ≤ 64 }
+    ensures words { OfText 8 result }
+    ensures text { text_in result ≡ name.now }
 {
     let mut words = [0u64; 9];
     texts::pack::write_text(&mut words, name);
@@ -23,9 +20,9 @@ fn name_words(name: &[u8]) -> [u64; 9]
 }
 
 fn text_words(text: &[u8]) -> [u64; 33]
-    requires { ⌜ length (now text) ≤ 256 ⌝ }
-    ensures words { λ r. ⌜ Of-text 32 r ⌝ }
-    ensures text { λ r. ⌜ text-in r ≡ now (text .entry) ⌝ }
+    requires { length text.now ≤ 256 }
+    ensures words { OfText 32 result }
+    ensures text { text_in result ≡ text.now }
 {
     let mut words = [0u64; 33];
     texts::pack::write_text(&mut words, text);
@@ -33,9 +30,9 @@ fn text_words(text: &[u8]) -> [u64; 33]
 }
 
 fn perhaps_words(text: Option<&[u8]>) -> [u64; 33]
-    requires { ⌜ All (λ t. length t ≤ 256) (perhaps-of text) ⌝ }
-    ensures words { λ r. ⌜ Of-perhaps 32 r ⌝ }
-    ensures text { λ r. ⌜ perhaps-in r ≡ perhaps-of (text .entry) ⌝ }
+    requires { All (λ t. length t ≤ 256) (perhaps_of text) }
+    ensures words { OfPerhaps 32 result }
+    ensures text { perhaps_in result ≡ perhaps_of text.entry }
 {
     let mut words = [0u64; 33];
     match text {
@@ -47,37 +44,36 @@ fn perhaps_words(text: Option<&[u8]>) -> [u64; 33]
 
 // The text of a name, in words, if there is one.
 pub fn look_up<'a>(region: &'a [u64], name: &[u8]) -> Option<&'a [u64]>
-    requires held { ⌜ Held (now region) ⌝ }
-    requires name { ⌜ length (now name) ≤ 64 ⌝ }
-    ensures { λ r. ⌜ text-of-words r ≡ look (now (name .entry)) (items-of (now (region .entry))) ⌝ }
+    requires held { Held region.now }
+    requires name { length name.now ≤ 64 }
+    ensures { text_of_words result ≡ look name.now (items_of region.now) }
 {
     find::look_up(region, &name_words(name))
 }
 
 pub fn do_get(region: &[u64], name: &[u8], after: &mut [u64], before: &mut [u64])
-    requires ready { ⌜ Ready (now region) (now after) (now before) ⌝ }
-    requires name { ⌜ length (now name) ≤ 64 ⌝ }
-    ensures { λ _. ⌜ Does (get (now (name .entry))) (now (region .entry)) (now (region .entry)) (now (after .exit)) (now (before .exit)) ⌝ }
+    requires ready { Ready region.now after.old before.old }
+    requires name { length name.now ≤ 64 }
+    ensures { Does (get name.now) region.now region.now after.new before.new }
 {
     commands::do_get(region, &name_words(name), after, before);
 }
 
 pub fn do_put(region: &mut [u64], name: &[u8], text: &[u8], after: &mut [u64], before: &mut [u64])
-    requires ready { ⌜ Ready (now region) (now after) (now before) ⌝ }
-    requires room { ⌜ length (items-of (now region)) < capacity (now region) ⌝ }
-    requires name { ⌜ length (now name) ≤ 64 ⌝ }
-    requires text { ⌜ length (now text) ≤ 256 ⌝ }
-    ensures { λ _. ⌜ Does (put (now (name .entry)) (now (text .entry))) (now (region .entry)) (now (region .exit)) (now (after .exit))
-        (now (before .exit)) ⌝ }
+    requires ready { Ready region.old after.old before.old }
+    requires room { length (items_of region.old) < capacity region.old }
+    requires name { length name.now ≤ 64 }
+    requires text { length text.now ≤ 256 }
+    ensures { Does (put name.now text.now) region.old region.new after.new
+        before.new }
 {
     commands::do_put(region, &name_words(name), &text_words(text), after, before);
 }
 
 pub fn do_remove(region: &mut [u64], name: &[u8], after: &mut [u64], before: &mut [u64])
-    requires ready { ⌜ Ready (now region) (now after) (now before) ⌝ }
-    requires name { ⌜ length (now name) ≤ 64 ⌝ }
-    ensures { λ _. ⌜ Does (remove (now (name .entry))) (now (region .entry)) (now (region .exit)) (now (after .exit)) (now
-        (before .exit)) ⌝ }
+    requires ready { Ready region.old after.old before.old }
+    requires name { length name.now ≤ 64 }
+    ensures { Does (remove name.now) region.old region.new after.new before.new }
 {
     commands::do_remove(region, &name_words(name), after, before);
 }
@@ -90,13 +86,12 @@ pub fn do_swap(
     after: &mut [u64],
     before: &mut [u64],
 )
-    requires ready { ⌜ Ready (now region) (now after) (now before) ⌝ }
-    requires room { ⌜ length (items-of (now region)) < capacity (now region) ⌝ }
-    requires name { ⌜ length (now name) ≤ 64 ⌝ }
-    requires expected { ⌜ All (λ t. length t ≤ 256) (perhaps-of expected) ⌝ }
-    requires text { ⌜ length (now text) ≤ 256 ⌝ }
-    ensures { λ _. ⌜ Does (swap (now (name .entry)) (perhaps-of (expected .entry)) (now (text .entry))) (now (region .entry)) (now
-        (region .exit)) (now (after .exit)) (now (before .exit)) ⌝ }
+    requires ready { Ready region.old after.old before.old }
+    requires room { length (items_of region.old) < capacity region.old }
+    requires name { length name.now ≤ 64 }
+    requires expected { All (λ t. length t ≤ 256) (perhaps_of expected) }
+    requires text { length text.now ≤ 256 }
+    ensures { Does (swap name.now (perhaps_of expected.entry) text.now) region.old region.new after.new before.new }
 {
     commands::do_swap(
         region,
@@ -115,11 +110,10 @@ pub fn do_drop_if(
     after: &mut [u64],
     before: &mut [u64],
 )
-    requires ready { ⌜ Ready (now region) (now after) (now before) ⌝ }
-    requires name { ⌜ length (now name) ≤ 64 ⌝ }
-    requires text { ⌜ length (now text) ≤ 256 ⌝ }
-    ensures { λ _. ⌜ Does (drop-if (now (name .entry)) (now (text .entry))) (now (region .entry)) (now (region .exit)) (now
-        (after .exit)) (now (before .exit)) ⌝ }
+    requires ready { Ready region.old after.old before.old }
+    requires name { length name.now ≤ 64 }
+    requires text { length text.now ≤ 256 }
+    ensures { Does (drop_if name.now text.now) region.old region.new after.new before.new }
 {
     commands::do_drop_if(region, &name_words(name), &text_words(text), after, before);
 }

@@ -1,29 +1,21 @@
 // A region changed: a text replaced, an item put in, an item taken out.
-ghost use mathlib.Core.Path.{_≡_};
-ghost use Prim.Native.Nat.{ℕ, _<_, _≤_};
-ghost use mathlib.Core.Bool.{true};
-ghost use mathlib.Core.List.{_++_};
-ghost use lib.ListN.{length, getD};
-ghost use Rattle·servers.specs.Store.{pick};
-ghost use Rattle·texts.specs.Words.{text-in};
-ghost use Rattle·store·specs.Region.{blank, count, capacity, items-of, replaced-at, inserted-at, removed-at, region-put};
-ghost use Rattle·store·specs.Calls.{Held, Of-text, Spot-of};
+ghost use Rattle.std.specs.Prelude.{◌≡◌, ℕ, ◌<◌, ◌≤◌, true, ◌++◌, length, slice_index_or};
+ghost use Rattle.servers.specs.Store.{pick};
+ghost use Rattle.texts.specs.Words.{text_in};
+ghost use Rattle.store.specs.Region.{blank, count, capacity, items_of, replaced_at, inserted_at, removed_at, region_put};
+ghost use Rattle.store.specs.Calls.{Held, OfText, SpotOf};
+
 use crate::find::Spot;
-use crate::index::close_place;
-use crate::index::open_place;
-use crate::row::INDEX;
-use crate::row::NAME;
-use crate::row::ROW;
-use crate::row::row_at;
+use crate::index::{close_place, open_place};
+use crate::row::{INDEX, NAME, ROW, row_at};
 use texts::copy::copy_text;
 
 // Another text for the p-th item: its row alone changes.
 pub fn replace(region: &mut [u64], p: usize, text: &[u64])
-    requires held { ⌜ Held (now region) ⌝ }
-    requires within { ⌜ p < count (now region) ⌝ }
-    requires text { ⌜ Of-text 32 (now text) ⌝ }
-    ensures { λ _. ⌜ now (region .exit) ≡ replaced-at p (getD (items-of (now (region .entry))) p blank .key) (text-in (now
-        (text .entry))) (now (region .entry)) ⌝ }
+    requires held { Held region.old }
+    requires within { p < count region.old }
+    requires text { OfText 32 text.now }
+    ensures { region.new ≡ replaced_at p (slice_index_or (items_of region.old) p blank).key (text_in text.now) region.old }
 {
     let at = row_at(region, p);
     copy_text(&mut region[at + NAME..at + ROW], text);
@@ -31,8 +23,8 @@ pub fn replace(region: &mut [u64], p: usize, text: &[u64])
 
 // A name and a text into a row.
 pub fn write_row(row: &mut [u64], name: &[u64], text: &[u64])
-    requires { ⌜ length (now row) ≡ 42 ⌝ ∗ ⌜ length (now name) ≡ 9 ⌝ ∗ ⌜ length (now text) ≡ 33 ⌝ }
-    ensures { λ _. ⌜ now (row .exit) ≡ now (name .entry) ++ now (text .entry) ⌝ }
+    requires { (length row.old ≡ 42) × ((length name.now ≡ 9) × (length text.now ≡ 33)) }
+    ensures { row.new ≡ name.now ++ text.now }
 {
     row[0..NAME].copy_from_slice(name);
     copy_text(&mut row[NAME..ROW], text);
@@ -40,13 +32,12 @@ pub fn write_row(row: &mut [u64], name: &[u64], text: &[u64])
 
 // A new item as the p-th, in the first free row.
 pub fn insert(region: &mut [u64], p: usize, name: &[u64], text: &[u64])
-    requires held { ⌜ Held (now region) ⌝ }
-    requires room { ⌜ count (now region) < capacity (now region) ⌝ }
-    requires within { ⌜ p ≤ count (now region) ⌝ }
-    requires name { ⌜ Of-text 8 (now name) ⌝ }
-    requires text { ⌜ Of-text 32 (now text) ⌝ }
-    ensures { λ _. ⌜ now (region .exit) ≡ inserted-at p (text-in (now (name .entry))) (text-in (now (text .entry))) (now
-        (region .entry)) ⌝ }
+    requires held { Held region.old }
+    requires room { count region.old < capacity region.old }
+    requires within { p ≤ count region.old }
+    requires name { OfText 8 name.now }
+    requires text { OfText 32 text.now }
+    ensures { region.new ≡ inserted_at p (text_in name.now) (text_in text.now) region.old }
 {
     let c = region[0] as usize;
     let n = region[1] as usize;
@@ -58,9 +49,9 @@ pub fn insert(region: &mut [u64], p: usize, name: &[u64], text: &[u64])
 
 // The p-th item out: its row is free, and its words stay.
 pub fn remove_at(region: &mut [u64], p: usize)
-    requires held { ⌜ Held (now region) ⌝ }
-    requires within { ⌜ p < count (now region) ⌝ }
-    ensures { λ _. ⌜ now (region .exit) ≡ removed-at p (now (region .entry)) ⌝ }
+    requires held { Held region.old }
+    requires within { p < count region.old }
+    ensures { region.new ≡ removed_at p region.old }
 {
     let c = region[0] as usize;
     let n = region[1] as usize;
@@ -70,12 +61,12 @@ pub fn remove_at(region: &mut [u64], p: usize)
 
 // A text under a name, whose spot this is.
 pub fn put_item(region: &mut [u64], spot: Spot, name: &[u64], text: &[u64])
-    requires held { ⌜ Held (now region) ⌝ }
-    requires room { ⌜ count (now region) < capacity (now region) ⌝ }
-    requires spot { ⌜ Spot-of (text-in (now name)) (now region) (spot .at) (spot .there) ⌝ }
-    requires name { ⌜ Of-text 8 (now name) ⌝ }
-    requires text { ⌜ Of-text 32 (now text) ⌝ }
-    ensures { λ _. ⌜ now (region .exit) ≡ region-put (text-in (now (name .entry))) (text-in (now (text .entry))) (now (region .entry)) ⌝ }
+    requires held { Held region.old }
+    requires room { count region.old < capacity region.old }
+    requires spot { SpotOf (text_in name.now) region.old spot.at spot.there }
+    requires name { OfText 8 name.now }
+    requires text { OfText 32 text.now }
+    ensures { region.new ≡ region_put (text_in name.now) (text_in text.now) region.old }
 {
     if spot.there {
         replace(region, spot.at, text);
@@ -86,9 +77,9 @@ pub fn put_item(region: &mut [u64], spot: Spot, name: &[u64], text: &[u64])
 
 // Nothing at this spot.
 pub fn remove_item(region: &mut [u64], spot: Spot)
-    requires held { ⌜ Held (now region) ⌝ }
-    requires within { ⌜ (spot .there ≡ true → spot .at < count (now region)) ⌝ }
-    ensures { λ _. ⌜ now (region .exit) ≡ pick (spot .there) (removed-at (spot .at) (now (region .entry))) (now (region .entry)) ⌝ }
+    requires held { Held region.old }
+    requires within { spot.there ≡ true → spot.at < count region.old }
+    ensures { region.new ≡ pick spot.there (removed_at spot.at region.old) region.old }
 {
     if spot.there {
         remove_at(region, spot.at);

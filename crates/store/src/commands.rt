@@ -1,28 +1,23 @@
 // The five commands, on names and texts as words. Each leaves the region after it, and tells what there is after it and was before.
-ghost use mathlib.Core.Path.{_≡_};
-ghost use Prim.Native.Nat.{ℕ, _<_};
-ghost use lib.ListN.{length};
-ghost use Rattle·servers.specs.Store.{get, put, remove, swap, drop-if, look};
-ghost use Rattle·texts.specs.Words.{text-in, perhaps-in, perhaps-words};
-ghost use Rattle·texts.specs.Commands.{command-in};
-ghost use Rattle·store·specs.Region.{capacity, items-of};
-ghost use Rattle·store·specs.Calls.{Held, Of-text, Of-perhaps, Of-command, Spot-of, Ready, Does};
-use crate::change::put_item;
-use crate::change::remove_item;
-use crate::find::Spot;
-use crate::find::find;
-use crate::reply::tell;
-use crate::reply::tell_none;
-use crate::reply::tell_text;
+ghost use Rattle.std.specs.Prelude.{◌≡◌, ℕ, ◌<◌, length};
+ghost use Rattle.servers.specs.Store.{get, put, remove, swap, drop_if, look};
+ghost use Rattle.texts.specs.Words.{text_in, perhaps_in, perhaps_words};
+ghost use Rattle.texts.specs.Commands.{command_in};
+ghost use Rattle.store.specs.Region.{capacity, items_of};
+ghost use Rattle.store.specs.Calls.{Held, OfText, OfPerhaps, OfCommand, SpotOf, Ready, Does};
+
+use crate::change::{put_item, remove_item};
+use crate::find::{Spot, find};
+use crate::reply::{tell, tell_none, tell_text};
 use texts::compare::same;
 
 // Finds a name, and tells what there is before the command.
 fn find_before(region: &[u64], name: &[u64], before: &mut [u64]) -> Spot
-    requires held { ⌜ Held (now region) ⌝ }
-    requires wide { ⌜ length (now before) ≡ 33 ⌝ }
-    requires name { ⌜ Of-text 8 (now name) ⌝ }
-    ensures spot { λ r. ⌜ Spot-of (text-in (now (name .entry))) (now (region .entry)) (r .at) (r .there) ⌝ }
-    ensures told { λ _. ⌜ now (before .exit) ≡ perhaps-words 32 (look (text-in (now (name .entry))) (items-of (now (region .entry)))) ⌝ }
+    requires held { Held region.now }
+    requires wide { length before.old ≡ 33 }
+    requires name { OfText 8 name.now }
+    ensures spot { SpotOf (text_in name.now) region.now result.at result.there }
+    ensures told { before.new ≡ perhaps_words 32 (look (text_in name.now) (items_of region.now)) }
 {
     let spot = find(region, name);
     tell(region, spot, before);
@@ -30,22 +25,21 @@ fn find_before(region: &[u64], name: &[u64], before: &mut [u64]) -> Spot
 }
 
 pub fn do_get(region: &[u64], name: &[u64], after: &mut [u64], before: &mut [u64])
-    requires ready { ⌜ Ready (now region) (now after) (now before) ⌝ }
-    requires name { ⌜ Of-text 8 (now name) ⌝ }
-    ensures { λ _. ⌜ Does (get (text-in (now (name .entry)))) (now (region .entry)) (now (region .entry)) (now (after .exit)) (now
-        (before .exit)) ⌝ }
+    requires ready { Ready region.now after.old before.old }
+    requires name { OfText 8 name.now }
+    ensures { Does (get (text_in name.now)) region.now region.now after.new before.new }
 {
     let spot = find_before(region, name, before);
     after.copy_from_slice(before);
 }
 
 pub fn do_put(region: &mut [u64], name: &[u64], text: &[u64], after: &mut [u64], before: &mut [u64])
-    requires ready { ⌜ Ready (now region) (now after) (now before) ⌝ }
-    requires room { ⌜ length (items-of (now region)) < capacity (now region) ⌝ }
-    requires name { ⌜ Of-text 8 (now name) ⌝ }
-    requires text { ⌜ Of-text 32 (now text) ⌝ }
-    ensures { λ _. ⌜ Does (put (text-in (now (name .entry))) (text-in (now (text .entry)))) (now (region .entry)) (now (region .exit))
-        (now (after .exit)) (now (before .exit)) ⌝ }
+    requires ready { Ready region.old after.old before.old }
+    requires room { length (items_of region.old) < capacity region.old }
+    requires name { OfText 8 name.now }
+    requires text { OfText 32 text.now }
+    ensures { Does (put (text_in name.now) (text_in text.now)) region.old region.new
+        after.new before.new }
 {
     let spot = find_before(region, name, before);
     put_item(region, spot, name, text);
@@ -53,10 +47,9 @@ pub fn do_put(region: &mut [u64], name: &[u64], text: &[u64], after: &mut [u64],
 }
 
 pub fn do_remove(region: &mut [u64], name: &[u64], after: &mut [u64], before: &mut [u64])
-    requires ready { ⌜ Ready (now region) (now after) (now before) ⌝ }
-    requires name { ⌜ Of-text 8 (now name) ⌝ }
-    ensures { λ _. ⌜ Does (remove (text-in (now (name .entry)))) (now (region .entry)) (now (region .exit)) (now (after .exit)) (now
-        (before .exit)) ⌝ }
+    requires ready { Ready region.old after.old before.old }
+    requires name { OfText 8 name.now }
+    ensures { Does (remove (text_in name.now)) region.old region.new after.new before.new }
 {
     let spot = find_before(region, name, before);
     remove_item(region, spot);
@@ -72,13 +65,12 @@ pub fn do_swap(
     after: &mut [u64],
     before: &mut [u64],
 )
-    requires ready { ⌜ Ready (now region) (now after) (now before) ⌝ }
-    requires room { ⌜ length (items-of (now region)) < capacity (now region) ⌝ }
-    requires name { ⌜ Of-text 8 (now name) ⌝ }
-    requires expected { ⌜ Of-perhaps 32 (now expected) ⌝ }
-    requires text { ⌜ Of-text 32 (now text) ⌝ }
-    ensures { λ _. ⌜ Does (swap (text-in (now (name .entry))) (perhaps-in (now (expected .entry))) (text-in (now (text .entry)))) (now
-        (region .entry)) (now (region .exit)) (now (after .exit)) (now (before .exit)) ⌝ }
+    requires ready { Ready region.old after.old before.old }
+    requires room { length (items_of region.old) < capacity region.old }
+    requires name { OfText 8 name.now }
+    requires expected { OfPerhaps 32 expected.now }
+    requires text { OfText 32 text.now }
+    ensures { Does (swap (text_in name.now) (perhaps_in expected.now) (text_in text.now)) region.old region.new after.new before.new }
 {
     let spot = find_before(region, name, before);
     if same(before, expected) {
@@ -97,11 +89,10 @@ pub fn do_drop_if(
     after: &mut [u64],
     before: &mut [u64],
 )
-    requires ready { ⌜ Ready (now region) (now after) (now before) ⌝ }
-    requires name { ⌜ Of-text 8 (now name) ⌝ }
-    requires text { ⌜ Of-text 32 (now text) ⌝ }
-    ensures { λ _. ⌜ Does (drop-if (text-in (now (name .entry))) (text-in (now (text .entry)))) (now (region .entry)) (now
-        (region .exit)) (now (after .exit)) (now (before .exit)) ⌝ }
+    requires ready { Ready region.old after.old before.old }
+    requires name { OfText 8 name.now }
+    requires text { OfText 32 text.now }
+    ensures { Does (drop_if (text_in name.now) (text_in text.now)) region.old region.new after.new before.new }
 {
     let spot = find_before(region, name, before);
     tell_text(after, text);
@@ -115,11 +106,10 @@ pub fn do_drop_if(
 
 // A command by its words, as they stand in a row of a log.
 pub fn do_command(region: &mut [u64], command: &[u64], after: &mut [u64], before: &mut [u64])
-    requires ready { ⌜ Ready (now region) (now after) (now before) ⌝ }
-    requires room { ⌜ length (items-of (now region)) < capacity (now region) ⌝ }
-    requires command { ⌜ Of-command (now command) ⌝ }
-    ensures { λ _. ⌜ Does (command-in (now (command .entry))) (now (region .entry)) (now (region .exit)) (now (after .exit)) (now
-        (before .exit)) ⌝ }
+    requires ready { Ready region.old after.old before.old }
+    requires room { length (items_of region.old) < capacity region.old }
+    requires command { OfCommand command.now }
+    ensures { Does (command_in command.now) region.old region.new after.new before.new }
 {
     let name = &command[1..10];
     let expected = &command[10..43];

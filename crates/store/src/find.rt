@@ -1,14 +1,11 @@
 // A name's place among the sorted names, by halves.
-ghost use mathlib.Core.Path.{_≡_};
-ghost use mathlib.Core.Bool.{Bool, true, false};
-ghost use Prim.Native.Nat.{ℕ, _<_};
-ghost use lib.ListN.{getD};
-ghost use Rattle·servers.specs.Store.{less-text, same-text, look};
-ghost use Rattle·texts.specs.Words.{text-in};
-ghost use Rattle·store·specs.Region.{blank, count, items-of, place};
-ghost use Rattle·store·specs.Calls.{Held, Of-text, Spot-of, text-of-words};
-use crate::row::name_at;
-use crate::row::text_at;
+ghost use Rattle.std.specs.Prelude.{◌≡◌, ℕ, ◌<◌, Bool, true, false, slice_index_or};
+ghost use Rattle.servers.specs.Store.{less_text, same_text, look};
+ghost use Rattle.texts.specs.Words.{text_in};
+ghost use Rattle.store.specs.Region.{blank, count, items_of, place};
+ghost use Rattle.store.specs.Calls.{Held, OfText, SpotOf, text_of_words};
+
+use crate::row::{name_at, text_at};
 
 // Where a name is or goes, and whether it is there.
 #[derive(Clone, Copy)]
@@ -19,29 +16,29 @@ pub struct Spot {
 
 // Whether the name of the p-th item comes before this one.
 fn less_at(region: &[u64], p: usize, name: &[u64]) -> bool
-    requires held { ⌜ Held (now region) ⌝ }
-    requires within { ⌜ p < count (now region) ⌝ }
-    requires name { ⌜ Of-text 8 (now name) ⌝ }
-    ensures { λ r. ⌜ r ≡ less-text (getD (items-of (now (region .entry))) p blank .key) (text-in (now (name .entry))) ⌝ }
+    requires held { Held region.now }
+    requires within { p < count region.now }
+    requires name { OfText 8 name.now }
+    ensures { result ≡ less_text (slice_index_or (items_of region.now) p blank).key (text_in name.now) }
 {
     texts::compare::less(name_at(region, p), name)
 }
 
 // Whether the p-th item has this name.
 fn same_at(region: &[u64], p: usize, name: &[u64]) -> bool
-    requires held { ⌜ Held (now region) ⌝ }
-    requires within { ⌜ p < count (now region) ⌝ }
-    requires name { ⌜ Of-text 8 (now name) ⌝ }
-    ensures { λ r. ⌜ r ≡ same-text (getD (items-of (now (region .entry))) p blank .key) (text-in (now (name .entry))) ⌝ }
+    requires held { Held region.now }
+    requires within { p < count region.now }
+    requires name { OfText 8 name.now }
+    ensures { result ≡ same_text (slice_index_or (items_of region.now) p blank).key (text_in name.now) }
 {
     texts::compare::same(name_at(region, p), name)
 }
 
 // How many names come before this one.
 pub fn lower_bound(region: &[u64], name: &[u64]) -> usize
-    requires held { ⌜ Held (now region) ⌝ }
-    requires name { ⌜ Of-text 8 (now name) ⌝ }
-    ensures { λ r. ⌜ r ≡ place (text-in (now (name .entry))) (items-of (now (region .entry))) ⌝ }
+    requires held { Held region.now }
+    requires name { OfText 8 name.now }
+    ensures { result ≡ place (text_in name.now) (items_of region.now) }
 {
     let mut lo = 0;
     let mut hi = region[0] as usize;
@@ -57,9 +54,9 @@ pub fn lower_bound(region: &[u64], name: &[u64]) -> usize
 }
 
 pub fn find(region: &[u64], name: &[u64]) -> Spot
-    requires held { ⌜ Held (now region) ⌝ }
-    requires name { ⌜ Of-text 8 (now name) ⌝ }
-    ensures { λ r. ⌜ Spot-of (text-in (now (name .entry))) (now (region .entry)) (r .at) (r .there) ⌝ }
+    requires held { Held region.now }
+    requires name { OfText 8 name.now }
+    ensures { SpotOf (text_in name.now) region.now result.at result.there }
 {
     let at = lower_bound(region, name);
     let count = region[0] as usize;
@@ -69,9 +66,9 @@ pub fn find(region: &[u64], name: &[u64]) -> Spot
 
 // The text of a name, in words, if there is one.
 pub fn look_up<'a>(region: &'a [u64], name: &[u64]) -> Option<&'a [u64]>
-    requires held { ⌜ Held (now region) ⌝ }
-    requires name { ⌜ Of-text 8 (now name) ⌝ }
-    ensures { λ r. ⌜ text-of-words r ≡ look (text-in (now (name .entry))) (items-of (now (region .entry))) ⌝ }
+    requires held { Held region.now }
+    requires name { OfText 8 name.now }
+    ensures { text_of_words result ≡ look (text_in name.now) (items_of region.now) }
 {
     let spot = find(region, name);
     if spot.there {

@@ -1,5 +1,5 @@
 // Texts by names in a part of lent words: the commands of the store, against its definitions.
-ghost use Rattle·store·specs.Laws.{Region-laws};
+ghost use Rattle.store.specs.Laws.{RegionLaws};
 
 pub mod bytes;
 pub mod change;
@@ -12,7 +12,7 @@ pub mod start;
 
 // What a region of words owes of any command.
 pub fn region_stands() -> u8
-    ensures { λ _. ⌜ Region-laws ⌝ }
+    ensures { RegionLaws }
 {
     0
 }

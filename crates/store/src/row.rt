@@ -1,10 +1,8 @@
 // Rows: where they stand, and their names and texts as parts of the region.
-ghost use mathlib.Core.Path.{_≡_};
-ghost use Prim.Native.Nat.{ℕ, _+_, _*_, _<_, _≤_};
-ghost use lib.ListN.{length, getD};
-ghost use Rattle·texts.specs.Words.{text-words};
-ghost use Rattle·store·specs.Region.{blank, count, capacity, index-of, items-of};
-ghost use Rattle·store·specs.Calls.{Held};
+ghost use Rattle.std.specs.Prelude.{◌≡◌, ℕ, ◌+◌, ◌*◌, ◌<◌, ◌≤◌, length, slice_index, slice_index_or};
+ghost use Rattle.texts.specs.Words.{text_words};
+ghost use Rattle.store.specs.Region.{blank, count, capacity, index_of, items_of};
+ghost use Rattle.store.specs.Calls.{Held};
 
 // Where the index begins; the words of a name; the words of a row.
 pub const INDEX: usize = 2;
@@ -15,26 +13,26 @@ pub const ROW: usize = 42;
 
 // How many items there are.
 pub fn len(region: &[u64]) -> usize
-    requires held { ⌜ Held (now region) ⌝ }
-    ensures { λ r. ⌜ r ≡ length (items-of (now (region .entry))) ⌝ }
+    requires held { Held region.now }
+    ensures { result ≡ length (items_of region.now) }
 {
     region[0] as usize
 }
 
 // For how many there is room.
 pub fn room(region: &[u64]) -> usize
-    requires held { ⌜ Held (now region) ⌝ }
-    ensures { λ r. ⌜ r ≡ capacity (now (region .entry)) ⌝ }
+    requires held { Held region.now }
+    ensures { result ≡ capacity region.now }
 {
     region[1] as usize
 }
 
 // Where the row begins whose number is at p in the index.
 pub fn row_at(region: &[u64], p: usize) -> usize
-    requires held { ⌜ Held (now region) ⌝ }
-    requires within { ⌜ p < capacity (now region) ⌝ }
-    ensures value { λ r. ⌜ r ≡ 2 + capacity (now (region .entry)) + 42 * getD (index-of (now (region .entry))) p 0 ⌝ }
-    ensures end { λ r. ⌜ r + 42 ≤ length (now (region .entry)) ⌝ }
+    requires held { Held region.now }
+    requires within { p < capacity region.now }
+    ensures value { result ≡ 2 + capacity region.now + 42 * slice_index (index_of region.now) p }
+    ensures end { result + 42 ≤ length region.now }
 {
     let n = region[1] as usize;
     let row = region[INDEX + p] as usize;
@@ -43,9 +41,9 @@ pub fn row_at(region: &[u64], p: usize) -> usize
 
 // The name of the p-th item.
 pub fn name_at(region: &[u64], p: usize) -> &[u64]
-    requires held { ⌜ Held (now region) ⌝ }
-    requires within { ⌜ p < count (now region) ⌝ }
-    ensures { λ r. ⌜ now r ≡ text-words 8 (getD (items-of (now (region .entry))) p blank .key) ⌝ }
+    requires held { Held region.now }
+    requires within { p < count region.now }
+    ensures { result.now ≡ text_words 8 (slice_index_or (items_of region.now) p blank).key }
 {
     let at = row_at(region, p);
     &region[at..at + NAME]
@@ -53,9 +51,9 @@ pub fn name_at(region: &[u64], p: usize) -> &[u64]
 
 // The text of the p-th item.
 pub fn text_at(region: &[u64], p: usize) -> &[u64]
-    requires held { ⌜ Held (now region) ⌝ }
-    requires within { ⌜ p < count (now region) ⌝ }
-    ensures { λ r. ⌜ now r ≡ text-words 32 (getD (items-of (now (region .entry))) p blank .value) ⌝ }
+    requires held { Held region.now }
+    requires within { p < count region.now }
+    ensures { result.now ≡ text_words 32 (slice_index_or (items_of region.now) p blank).value }
 {
     let at = row_at(region, p);
     &region[at + NAME..at + ROW]

@@ -1,12 +1,10 @@
 // An empty region.
-ghost use mathlib.Core.Path.{_≡_};
-ghost use Prim.Native.Nat.{ℕ};
-ghost use lib.ListN.{length};
-ghost use Rattle·store·specs.Region.{capacity, numbers, region-size, empty-region};
-ghost use Rattle·store·specs.Calls.{Held};
+ghost use Rattle.std.specs.Prelude.{◌≡◌, ℕ, length};
+ghost use Rattle.store.specs.Region.{capacity, numbers, region_size, empty_region};
+ghost use Rattle.store.specs.Calls.{Held};
 
 fn number_rows(index: &mut [u64])
-    ensures { λ _. ⌜ now (index .exit) ≡ numbers 0 (length (now (index .entry))) ⌝ }
+    ensures { index.new ≡ numbers 0 (length index.old) }
 {
     for i in 0..index.len() {
         index[i] = i as u64;
@@ -15,10 +13,10 @@ fn number_rows(index: &mut [u64])
 
 // Makes words a region with room for n items, and none in it.
 pub fn open_region(region: &mut [u64], n: usize)
-    requires { ⌜ length (now region) ≡ region-size n ⌝ }
-    ensures empty { λ _. ⌜ now (region .exit) ≡ empty-region n ⌝ }
-    ensures held { λ _. ⌜ Held (now (region .exit)) ⌝ }
-    ensures room { λ _. ⌜ capacity (now (region .exit)) ≡ n ⌝ }
+    requires { length region.old ≡ region_size n }
+    ensures empty { region.new ≡ empty_region n }
+    ensures held { Held region.new }
+    ensures room { capacity region.new ≡ n }
 {
     region.fill(0);
     region[1] = n as u64;

@@ -1,19 +1,16 @@
 // The store's functions for tests: each tells whether the reply was the expected one.
-ghost use mathlib.Core.Path.{_≡_};
-ghost use Prim.Native.Nat.{ℕ, _≤_};
-ghost use lib.ListN.{length};
-ghost use Rattle·texts.specs.Words.{All};
-ghost use Rattle·texts.specs.Means.{perhaps-of};
-ghost use Rattle·store.specs.Calls.{Held};
-use store::bytes;
-use store::row;
+ghost use Rattle.std.specs.Prelude.{◌≡◌, ℕ, ◌≤◌, length};
+ghost use Rattle.texts.specs.Words.{All};
+ghost use Rattle.texts.specs.Means.{perhaps_of};
+ghost use Rattle.store.specs.Calls.{Held};
+
+use store::{bytes, row};
 use texts::compare::same;
-use texts::pack::write_perhaps;
-use texts::pack::write_text;
+use texts::pack::{write_perhaps, write_text};
 
 // Whether 33 words are this text or none.
 fn is(words: &[u64; 33], text: Option<&[u8]>) -> bool
-    requires { ⌜ All (λ t. length t ≤ 256) (perhaps-of text) ⌝ }
+    requires { All (λ t. length t ≤ 256) (perhaps_of text) }
 {
     let mut row = [7u64; 33];
     write_perhaps(&mut row, text);
@@ -25,14 +22,14 @@ fn is_none(words: &[u64; 33]) -> bool {
 }
 
 pub fn has_room(region: &[u64]) -> bool
-    requires held { ⌜ Held (now region) ⌝ }
+    requires held { Held region.now }
 {
     row::len(region) < row::room(region)
 }
 
 pub fn get(region: &[u64], name: &[u8], text: Option<&[u8]>) -> bool
-    requires held { ⌜ Held (now region) ⌝ }
-    requires short { ⌜ length (now name) ≤ 64 ⌝ ∗ ⌜ All (λ t. length t ≤ 256) (perhaps-of text) ⌝ }
+    requires held { Held region.now }
+    requires short { (length name.now ≤ 64) × (All (λ t. length t ≤ 256) (perhaps_of text)) }
 {
     let mut after = [7u64; 33];
     let mut before = [7u64; 33];
@@ -42,9 +39,9 @@ pub fn get(region: &[u64], name: &[u8], text: Option<&[u8]>) -> bool
 
 // False where there is no room.
 pub fn put(region: &mut [u64], name: &[u8], text: &[u8], old: Option<&[u8]>) -> bool
-    requires held { ⌜ Held (now region) ⌝ }
-    requires short { ⌜ length (now name) ≤ 64 ⌝ ∗ ⌜ length (now text) ≤ 256 ⌝ ∗ ⌜ All (λ t. length t ≤ 256) (perhaps-of old) ⌝ }
-    ensures held { λ _. ⌜ Held (now (region .exit)) ⌝ }
+    requires held { Held region.old }
+    requires short { (length name.now ≤ 64) × ((length text.now ≤ 256) × (All (λ t. length t ≤ 256) (perhaps_of old))) }
+    ensures held { Held region.new }
 {
     if row::len(region) >= row::room(region) {
         return false;
@@ -56,9 +53,9 @@ pub fn put(region: &mut [u64], name: &[u8], text: &[u8], old: Option<&[u8]>) -> 
 }
 
 pub fn remove(region: &mut [u64], name: &[u8], old: Option<&[u8]>) -> bool
-    requires held { ⌜ Held (now region) ⌝ }
-    requires short { ⌜ length (now name) ≤ 64 ⌝ ∗ ⌜ All (λ t. length t ≤ 256) (perhaps-of old) ⌝ }
-    ensures held { λ _. ⌜ Held (now (region .exit)) ⌝ }
+    requires held { Held region.old }
+    requires short { (length name.now ≤ 64) × (All (λ t. length t ≤ 256) (perhaps_of old)) }
+    ensures held { Held region.new }
 {
     let mut after = [7u64; 33];
     let mut before = [7u64; 33];
@@ -75,10 +72,10 @@ pub fn swap(
     new: Option<&[u8]>,
     old: Option<&[u8]>,
 ) -> bool
-    requires held { ⌜ Held (now region) ⌝ }
-    requires short { ⌜ length (now name) ≤ 64 ⌝ ∗ ⌜ length (now text) ≤ 256 ⌝ ∗ ⌜ All (λ t. length t ≤ 256) (perhaps-of expected) ⌝ }
-    requires told { ⌜ All (λ t. length t ≤ 256) (perhaps-of new) ⌝ ∗ ⌜ All (λ t. length t ≤ 256) (perhaps-of old) ⌝ }
-    ensures held { λ _. ⌜ Held (now (region .exit)) ⌝ }
+    requires held { Held region.old }
+    requires short { (length name.now ≤ 64) × ((length text.now ≤ 256) × (All (λ t. length t ≤ 256) (perhaps_of expected))) }
+    requires told { (All (λ t. length t ≤ 256) (perhaps_of new)) × (All (λ t. length t ≤ 256) (perhaps_of old)) }
+    ensures held { Held region.new }
 {
     if row::len(region) >= row::room(region) {
         return false;
@@ -96,10 +93,10 @@ pub fn drop_if(
     new: Option<&[u8]>,
     old: Option<&[u8]>,
 ) -> bool
-    requires held { ⌜ Held (now region) ⌝ }
-    requires short { ⌜ length (now name) ≤ 64 ⌝ ∗ ⌜ length (now text) ≤ 256 ⌝ }
-    requires told { ⌜ All (λ t. length t ≤ 256) (perhaps-of new) ⌝ ∗ ⌜ All (λ t. length t ≤ 256) (perhaps-of old) ⌝ }
-    ensures held { λ _. ⌜ Held (now (region .exit)) ⌝ }
+    requires held { Held region.old }
+    requires short { (length name.now ≤ 64) × (length text.now ≤ 256) }
+    requires told { (All (λ t. length t ≤ 256) (perhaps_of new)) × (All (λ t. length t ≤ 256) (perhaps_of old)) }
+    ensures held { Held region.new }
 {
     let mut after = [7u64; 33];
     let mut before = [7u64; 33];
@@ -109,7 +106,7 @@ pub fn drop_if(
 
 // Whether the p-th name is this one.
 pub fn nth(region: &[u64], p: usize, name: &[u8]) -> bool
-    requires held { ⌜ Held (now region) ⌝ }
+    requires held { Held region.now }
 {
     if p >= row::len(region) {
         return false;
@@ -121,8 +118,8 @@ pub fn nth(region: &[u64], p: usize, name: &[u8]) -> bool
 
 // Puts the names 0 to 7, each with itself as its text, in an order that the step, below 8, gives.
 pub fn fill(region: &mut [u64], step: u8) -> bool
-    requires held { ⌜ Held (now region) ⌝ }
-    ensures held { λ _. ⌜ Held (now (region .exit)) ⌝ }
+    requires held { Held region.old }
+    ensures held { Held region.new }
 {
     let mut good = true;
     for i in 0..8u8 {
@@ -134,8 +131,8 @@ pub fn fill(region: &mut [u64], step: u8) -> bool
 
 // Removes them, in an order that the step gives.
 pub fn empty(region: &mut [u64], step: u8) -> bool
-    requires held { ⌜ Held (now region) ⌝ }
-    ensures held { λ _. ⌜ Held (now (region .exit)) ⌝ }
+    requires held { Held region.old }
+    ensures held { Held region.new }
 {
     let mut good = true;
     for i in 0..8u8 {
@@ -147,9 +144,9 @@ pub fn empty(region: &mut [u64], step: u8) -> bool
 
 // A name that is new, with itself as its text.
 pub fn put_new(region: &mut [u64], name: &[u8]) -> bool
-    requires held { ⌜ Held (now region) ⌝ }
-    requires short { ⌜ length (now name) ≤ 64 ⌝ }
-    ensures held { λ _. ⌜ Held (now (region .exit)) ⌝ }
+    requires held { Held region.old }
+    requires short { length name.now ≤ 64 }
+    ensures held { Held region.new }
 {
     if row::len(region) >= row::room(region) {
         return false;

@@ -1,12 +1,7 @@
 -- Texts as words of 64 bits: eight bytes to a word, the first byte highest, zeros after the text's end. So comparing words
 -- and then lengths compares texts. Assumes nothing: these are definitions.
-use mathlib.Core.Bool.{Bool, true, false, _&&_, _||_}
-use mathlib.Core.List.{List, [], _∷_, _++_}
-use mathlib.Core.Path.{_≡_}
-use Prim.Native.Nat.{ℕ, zero, suc, _+_, _*_, _-_, _/_, _%_, _^_, _≤_, _<_}
-use lib.Dec.{ltb, eqb}
-use lib.ListN.{length, getD, take, drop}
-use Rattle·servers.specs.Store.{pick, Perhaps}
+use Rattle.std.specs.Prelude.{◌≡◌, ℕ, zero, suc, ◌+◌, ◌-◌, ◌*◌, ◌/◌, ◌%◌, ◌^◌, ◌<◌, ◌≤◌, Bool, true, false, ◌&&◌, ◌||◌, List, [], ◌∷◌, ◌++◌, length, take, drop, ◌==◌, slice_index}
+use Rattle.servers.specs.Store.{pick, Perhaps}
 
 -- how many values a word has
 abbrev pub word : ℕ
@@ -24,41 +19,41 @@ Byte x = x < 256
 abbrev pub Text : ℕ → List ℕ → Type 0
 Text n t = (length t ≤ n) × All Byte t
 
-abbrev pub Perhaps-text : ℕ → Perhaps → Type 0
-Perhaps-text n [] = Unit {0}
-Perhaps-text n (t ∷ ts) = Text n t × (ts ≡ [])
+abbrev pub PerhapsText : ℕ → Perhaps → Type 0
+PerhapsText n [] = Unit {0}
+PerhapsText n (t ∷ ts) = Text n t × (ts ≡ [])
 
 -- the number that the first n bytes of t make, the first highest; a byte past the end counts as 0
-unfoldable pub number-be : ℕ → List ℕ → ℕ
-number-be zero t = 0
-number-be (suc n) t = getD t 0 0 * 256 ^ n + number-be n (drop 1 t)
+unfoldable pub number_be : ℕ → List ℕ → ℕ
+number_be zero t = 0
+number_be (suc n) t = slice_index t 0 * 256 ^ n + number_be n (drop 1 t)
 
 -- and back: the n bytes of x, the highest first
-unfoldable pub bytes-be : ℕ → ℕ → List ℕ
-bytes-be zero x = []
-bytes-be (suc n) x = x / 256 ^ n % 256 ∷ bytes-be n x
+unfoldable pub bytes_be : ℕ → ℕ → List ℕ
+bytes_be zero x = []
+bytes_be (suc n) x = x / 256 ^ n % 256 ∷ bytes_be n x
 
 -- the bytes of t in n words
 unfoldable pub cells : ℕ → List ℕ → List ℕ
 cells zero t = []
-cells (suc n) t = number-be 8 t ∷ cells n (drop 8 t)
+cells (suc n) t = number_be 8 t ∷ cells n (drop 8 t)
 
 -- the bytes of words
 unfoldable pub unpacked : List ℕ → List ℕ
 unpacked [] = []
-unpacked (w ∷ ws) = bytes-be 8 w ++ unpacked ws
+unpacked (w ∷ ws) = bytes_be 8 w ++ unpacked ws
 
 -- a text in n + 1 words: its length, and its bytes
-abbrev pub text-words : ℕ → List ℕ → List ℕ
-text-words n t = length t ∷ cells n t
+abbrev pub text_words : ℕ → List ℕ → List ℕ
+text_words n t = length t ∷ cells n t
 
-abbrev pub text-in : List ℕ → List ℕ
-text-in ws = take (getD ws 0 0) (unpacked (drop 1 ws))
+abbrev pub text_in : List ℕ → List ℕ
+text_in ws = take (slice_index ws 0) (unpacked (drop 1 ws))
 
 -- a text or none: 0, or one more than the length; then the bytes
-abbrev pub perhaps-words : ℕ → Perhaps → List ℕ
-perhaps-words n [] = 0 ∷ cells n []
-perhaps-words n (t ∷ ts) = (length t + 1) ∷ cells n t
+abbrev pub perhaps_words : ℕ → Perhaps → List ℕ
+perhaps_words n [] = 0 ∷ cells n []
+perhaps_words n (t ∷ ts) = (length t + 1) ∷ cells n t
 
-abbrev pub perhaps-in : List ℕ → Perhaps
-perhaps-in ws = pick (eqb (getD ws 0 0) 0) [] (take (getD ws 0 0 - 1) (unpacked (drop 1 ws)) ∷ [])
+abbrev pub perhaps_in : List ℕ → Perhaps
+perhaps_in ws = pick (slice_index ws 0 == 0) [] (take (slice_index ws 0 - 1) (unpacked (drop 1 ws)) ∷ [])

@@ -1,14 +1,12 @@
 // Texts compared by their words, and by their lengths where the words are the same.
-ghost use mathlib.Core.Path.{_≡_};
-ghost use Prim.Native.Nat.{ℕ, _<_};
-ghost use lib.ListN.{length};
-ghost use Rattle·servers.specs.Store.{same-text};
-ghost use Rattle·texts·specs.Order.{less-words};
+ghost use Rattle.std.specs.Prelude.{◌≡◌, ℕ, ◌<◌, length};
+ghost use Rattle.servers.specs.Store.{same_text};
+ghost use Rattle.texts.specs.Order.{less_words};
 
 // Whether the first text comes before the second, both in rows of one width.
 pub fn less(a: &[u64], b: &[u64]) -> bool
-    requires { ⌜ length (now a) ≡ length (now b) ⌝ ∗ ⌜ 0 < length (now a) ⌝ }
-    ensures { λ r. ⌜ r ≡ less-words (now (a .entry)) (now (b .entry)) ⌝ }
+    requires { (length a.now ≡ length b.now) × (0 < length a.now) }
+    ensures { result ≡ less_words a.now b.now }
 {
     for i in 1..a.len() {
         if a[i] < b[i] {
@@ -23,8 +21,8 @@ pub fn less(a: &[u64], b: &[u64]) -> bool
 
 // Whether two rows of one width are the same, word by word.
 pub fn same(a: &[u64], b: &[u64]) -> bool
-    requires { ⌜ length (now a) ≡ length (now b) ⌝ }
-    ensures { λ r. ⌜ r ≡ same-text (now (a .entry)) (now (b .entry)) ⌝ }
+    requires { length a.now ≡ length b.now }
+    ensures { result ≡ same_text a.now b.now }
 {
     let mut same = true;
     for i in 0..a.len() {

@@ -1,13 +1,11 @@
 // The words of a text copied: four are read before one of them is written, so that they go through wide registers.
-ghost use mathlib.Core.Path.{_≡_};
-ghost use Prim.Native.Nat.{ℕ, _+_, _≤_};
-ghost use lib.ListN.{length, getD, set};
+ghost use Rattle.std.specs.Prelude.{◌≡◌, ℕ, ◌+◌, ◌≤◌, length, set, slice_index, slice_set};
 
 fn copy_four(to: &mut [u64], from: &[u64], i: usize)
-    requires to { ⌜ i + 4 ≤ length (now to) ⌝ }
-    requires from { ⌜ i + 4 ≤ length (now from) ⌝ }
-    ensures { λ _. ⌜ now (to .exit) ≡ set (set (set (set (now (to .entry)) i (getD (now (from .entry)) i 0)) (i + 1)
-        (getD (now (from .entry)) (i + 1) 0)) (i + 2) (getD (now (from .entry)) (i + 2) 0)) (i + 3) (getD (now (from .entry)) (i + 3) 0) ⌝ }
+    requires to { i + 4 ≤ length to.old }
+    requires from { i + 4 ≤ length from.now }
+    ensures { to.new ≡ slice_set (slice_set (set (slice_set to.old i (slice_index from.now i)) (i + 1)
+        (slice_index from.now (i + 1))) (i + 2) (slice_index from.now (i + 2))) (i + 3) (slice_index from.now (i + 3)) }
 {
     let a = from[i];
     let b = from[i + 1];
@@ -21,9 +19,9 @@ fn copy_four(to: &mut [u64], from: &[u64], i: usize)
 
 // A text of at most 256 bytes, or none: 33 words.
 pub fn copy_text(to: &mut [u64], from: &[u64])
-    requires to { ⌜ length (now to) ≡ 33 ⌝ }
-    requires from { ⌜ length (now from) ≡ 33 ⌝ }
-    ensures { λ _. ⌜ now (to .exit) ≡ now (from .entry) ⌝ }
+    requires to { length to.old ≡ 33 }
+    requires from { length from.now ≡ 33 }
+    ensures { to.new ≡ from.now }
 {
     for k in 0..8usize {
         copy_four(to, from, 4 * k);

@@ -1,21 +1,18 @@
 // Bytes into words: each whole word at once, the last part by a padded copy, the words after it zero.
-ghost use mathlib.Core.Path.{_≡_};
-ghost use mathlib.Core.List.{List, [], _∷_};
-ghost use Prim.Native.Nat.{ℕ, _+_, _-_, _*_, _<_, _≤_};
-ghost use lib.ListN.{length, replicate};
-ghost use Rattle·texts·specs.Means.{perhaps-of};
-ghost use Rattle·texts·specs.Words.{number-be, cells, text-words, perhaps-words, word, All};
+ghost use Rattle.std.specs.Prelude.{◌≡◌, ℕ, ◌+◌, ◌-◌, ◌*◌, ◌<◌, ◌≤◌, List, [], ◌∷◌, length, replicate};
+ghost use Rattle.texts.specs.Means.{perhaps_of};
+ghost use Rattle.texts.specs.Words.{number_be, cells, text_words, perhaps_words, word, All};
 
 fn number8(bytes: [u8; 8]) -> u64
-    ensures { λ r. ⌜ r ≡ number-be 8 bytes ⌝ }
+    ensures { result ≡ number_be 8 bytes }
 {
     u64::from_be_bytes(bytes)
 }
 
 // The word of the first eight bytes.
 fn front_word(text: &[u8]) -> u64
-    requires { ⌜ 8 ≤ length (now text) ⌝ }
-    ensures { λ r. ⌜ r ≡ number-be 8 (now (text .entry)) ⌝ }
+    requires { 8 ≤ length text.now }
+    ensures { result ≡ number_be 8 text.now }
 {
     let front: &[u8; 8] = text.first_chunk::<8>().unwrap();
     number8(*front)
@@ -23,8 +20,8 @@ fn front_word(text: &[u8]) -> u64
 
 // The word of less than eight bytes.
 fn part_word(text: &[u8]) -> u64
-    requires { ⌜ length (now text) < 8 ⌝ }
-    ensures { λ r. ⌜ r ≡ number-be 8 (now (text .entry)) ⌝ }
+    requires { length text.now < 8 }
+    ensures { result ≡ number_be 8 text.now }
 {
     let mut bytes = [0u8; 8];
     let n = text.len();
@@ -33,8 +30,8 @@ fn part_word(text: &[u8]) -> u64
 }
 
 fn pack_whole(row: &mut [u64], text: &[u8])
-    requires { ⌜ 8 * length (now row) ≤ length (now text) ⌝ }
-    ensures { λ _. ⌜ now (row .exit) ≡ cells (length (now (row .entry))) (now (text .entry)) ⌝ }
+    requires { 8 * length row.old ≤ length text.now }
+    ensures { row.new ≡ cells (length row.old) text.now }
 {
     for k in 0..row.len() {
         row[k] = front_word(&text[8 * k..]);
@@ -43,10 +40,10 @@ fn pack_whole(row: &mut [u64], text: &[u8])
 
 // The bytes after the whole words, into words that are zero.
 fn pack_rest(row: &mut [u64], text: &[u8])
-    requires short { ⌜ length (now text) < 8 ⌝ }
-    requires some { ⌜ 0 < length (now row) ⌝ }
-    requires zero { ⌜ now row ≡ replicate (length (now row)) 0 ⌝ }
-    ensures { λ _. ⌜ now (row .exit) ≡ cells (length (now (row .entry))) (now (text .entry)) ⌝ }
+    requires short { length text.now < 8 }
+    requires some { 0 < length row.old }
+    requires zero { row.old ≡ replicate (length row.old) 0 }
+    ensures { row.new ≡ cells (length row.old) text.now }
 {
     if text.len() == 0 {
         return;
@@ -56,7 +53,7 @@ fn pack_rest(row: &mut [u64], text: &[u8])
 
 // The text's bytes, as far as the row reaches.
 pub fn pack(row: &mut [u64], text: &[u8])
-    ensures { λ _. ⌜ now (row .exit) ≡ cells (length (now (row .entry))) (now (text .entry)) ⌝ }
+    ensures { row.new ≡ cells (length row.old) text.now }
 {
     let whole = text.len() / 8;
     if row.len() <= whole {
@@ -70,8 +67,8 @@ pub fn pack(row: &mut [u64], text: &[u8])
 
 // A text: its length, and its bytes.
 pub fn write_text(row: &mut [u64], text: &[u8])
-    requires { ⌜ 0 < length (now row) ⌝ }
-    ensures { λ _. ⌜ now (row .exit) ≡ text-words (length (now (row .entry)) - 1) (now (text .entry)) ⌝ }
+    requires { 0 < length row.old }
+    ensures { row.new ≡ text_words (length row.old - 1) text.now }
 {
     pack(&mut row[1..], text);
     row[0] = text.len() as u64;
@@ -79,16 +76,16 @@ pub fn write_text(row: &mut [u64], text: &[u8])
 
 // No text.
 pub fn write_none(row: &mut [u64])
-    requires { ⌜ 0 < length (now row) ⌝ }
-    ensures { λ _. ⌜ now (row .exit) ≡ perhaps-words (length (now (row .entry)) - 1) [] ⌝ }
+    requires { 0 < length row.old }
+    ensures { row.new ≡ perhaps_words (length row.old - 1) [] }
 {
     row.fill(0);
 }
 
 // A text where there may be none.
 pub fn write_some(row: &mut [u64], text: &[u8])
-    requires { ⌜ 0 < length (now row) ⌝ ∗ ⌜ length (now text) + 1 < word ⌝ }
-    ensures { λ _. ⌜ now (row .exit) ≡ perhaps-words (length (now (row .entry)) - 1) (now (text .entry) ∷ []) ⌝ }
+    requires { (0 < length row.old) × (length text.now + 1 < word) }
+    ensures { row.new ≡ perhaps_words (length row.old - 1) (text.now ∷ []) }
 {
     pack(&mut row[1..], text);
     row[0] = text.len() as u64 + 1;
@@ -96,8 +93,8 @@ pub fn write_some(row: &mut [u64], text: &[u8])
 
 // A text or none.
 pub fn write_perhaps(row: &mut [u64], text: Option<&[u8]>)
-    requires { ⌜ 0 < length (now row) ⌝ ∗ ⌜ All (λ t. length t + 1 < word) (perhaps-of text) ⌝ }
-    ensures { λ _. ⌜ now (row .exit) ≡ perhaps-words (length (now (row .entry)) - 1) (perhaps-of (text .entry)) ⌝ }
+    requires { (0 < length row.old) × (All (λ t. length t + 1 < word) (perhaps_of text)) }
+    ensures { row.new ≡ perhaps_words (length row.old - 1) (perhaps_of text.entry) }
 {
     match text {
         Some(t) => write_some(row, t),

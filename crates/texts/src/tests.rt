@@ -1,15 +1,11 @@
 // Texts packed, unpacked and compared: empty and longest ones, prefixes, bytes 0 and 255.
-ghost use mathlib.Core.Path.{_≡_};
-ghost use Prim.Native.Nat.{_≤_};
-ghost use lib.ListN.{length};
-use crate::compare;
-use crate::pack;
-use crate::unpack;
-use std::test::*;
+ghost use Rattle.std.specs.Prelude.{◌≡◌, ◌≤◌, length};
+
+use crate::{compare, pack, unpack};
 
 // Packs a text into four words and a length, and takes it out again.
 fn returns(text: &[u8], out: &mut [u8]) -> bool
-    requires { ⌜ length (now text) ≤ 32 ⌝ ∗ ⌜ length (now out) ≡ length (now text) ⌝ }
+    requires { (length text.now ≤ 32) × (length out.old ≡ length text.now) }
 {
     let mut row = [7u64; 5];
     pack::write_text(&mut row, text);
@@ -27,37 +23,50 @@ fn before(a: &[u8], b: &[u8]) -> bool {
 }
 
 #[test]
-fn texts_return() -> Result<(), Fail> {
-    check(returns(b"", &mut [7; 0])).note("empty")?;
-    check(returns(b"a", &mut [7; 1])).note("one byte")?;
-    check(returns(b"1234567", &mut [7; 7])).note("less than a word")?;
-    check(returns(b"12345678", &mut [7; 8])).note("a word")?;
-    check(returns(b"123456789", &mut [7; 9])).note("more than a word")?;
-    check(returns(b"\x00\xff\x00\xff\x00\xff\x00\xff\xff\x00", &mut [7; 10])).note(
-        "bytes 0 and 255",
-    )?;
-    check(returns(b"12345678123456781234567812345678", &mut [7; 32])).note("longest")
+fn texts_return(rt: HostRuntime) {
+    assert!(rt; returns(b"", &mut [7; 0]), "empty");
+    assert!(rt; returns(b"a", &mut [7; 1]), "one byte");
+    assert!(rt; returns(b"1234567", &mut [7; 7]), "less than a word");
+    assert!(rt; returns(b"12345678", &mut [7; 8]), "a word");
+    assert!(rt; returns(b"123456789", &mut [7; 9]), "more than a word");
+    assert!(rt;
+        returns(b"\x00\xff\x00\xff\x00\xff\x00\xff\xff\x00", &mut [7; 10]),
+        "bytes 0 and 255"
+    );
+    assert!(rt;
+        returns(b"12345678123456781234567812345678", &mut [7; 32]),
+        "longest"
+    );
 }
 
 #[test]
-fn order_is_kept() -> Result<(), Fail> {
-    check(before(b"", b"\x00")).note("empty and 0")?;
-    check(before(b"\x00", b"\x00\x00")).note("zeros")?;
-    check(before(b"a", b"ab")).note("a prefix")?;
-    check(before(b"12345678", b"123456780")).note("a word is a prefix")?;
-    check(before(b"ab", b"b")).note("first byte")?;
-    check(before(b"a\x7f", b"a\xff")).note("bytes above 127")?;
-    check(before(b"1234567812345678", b"1234567812345679")).note("last byte of the last word")?;
-    check(before(b"\xff\xfe\xff", b"\xff\xff")).note("shorter and larger")
+fn order_is_kept(rt: HostRuntime) {
+    assert!(rt; before(b"", b"\x00"), "empty and 0");
+    assert!(rt; before(b"\x00", b"\x00\x00"), "zeros");
+    assert!(rt; before(b"a", b"ab"), "a prefix");
+    assert!(rt; before(b"12345678", b"123456780"), "a word is a prefix");
+    assert!(rt; before(b"ab", b"b"), "first byte");
+    assert!(rt; before(b"a\x7f", b"a\xff"), "bytes above 127");
+    assert!(rt;
+        before(b"1234567812345678", b"1234567812345679"),
+        "last byte of the last word"
+    );
+    assert!(rt; before(b"\xff\xfe\xff", b"\xff\xff"), "shorter and larger");
 }
 
 #[test]
-fn words_are_pinned() -> Result<(), Fail> {
+fn words_are_pinned(rt: HostRuntime) {
     let mut row = [7u64; 3];
     pack::write_text(&mut row, b"\x01\x02");
-    check(compare::same(&row, &[2, 0x0102000000000000, 0])).note("the first byte is the highest")?;
+    assert!(rt;
+        compare::same(&row, &[2, 0x0102000000000000, 0]),
+        "the first byte is the highest"
+    );
     pack::write_perhaps(&mut row, Some(b"\x01"));
-    check(compare::same(&row, &[2, 0x0100000000000000, 0])).note("one more than the length")?;
+    assert!(rt;
+        compare::same(&row, &[2, 0x0100000000000000, 0]),
+        "one more than the length"
+    );
     pack::write_perhaps(&mut row, None);
-    check(compare::same(&row, &[0, 0, 0])).note("none")
+    assert!(rt; compare::same(&row, &[0, 0, 0]), "none");
 }

@@ -1,18 +1,16 @@
 // Words back to bytes, eight at a time.
-ghost use mathlib.Core.Path.{_≡_};
-ghost use Prim.Native.Nat.{ℕ, _*_, _≤_};
-ghost use lib.ListN.{length, take};
-ghost use Rattle·texts·specs.Words.{bytes-be, unpacked};
+ghost use Rattle.std.specs.Prelude.{◌≡◌, ℕ, ◌*◌, ◌≤◌, length, take};
+ghost use Rattle.texts.specs.Words.{bytes_be, unpacked};
 
 fn bytes8(x: u64) -> [u8; 8]
-    ensures { λ r. ⌜ r ≡ bytes-be 8 x ⌝ }
+    ensures { result ≡ bytes_be 8 x }
 {
     x.to_be_bytes()
 }
 
 fn unpack_whole(out: &mut [u8], row: &[u64])
-    requires { ⌜ length (now out) ≡ 8 * length (now row) ⌝ }
-    ensures { λ _. ⌜ now (out .exit) ≡ unpacked (now (row .entry)) ⌝ }
+    requires { length out.old ≡ 8 * length row.now }
+    ensures { out.new ≡ unpacked row.now }
 {
     for k in 0..row.len() {
         out[8 * k..8 * k + 8].copy_from_slice(&bytes8(row[k]));
@@ -21,8 +19,8 @@ fn unpack_whole(out: &mut [u8], row: &[u64])
 
 // The first bytes of the row's, as many as out takes.
 pub fn unpack(out: &mut [u8], row: &[u64])
-    requires { ⌜ length (now out) ≤ 8 * length (now row) ⌝ }
-    ensures { λ _. ⌜ now (out .exit) ≡ take (length (now (out .entry))) (unpacked (now (row .entry))) ⌝ }
+    requires { length out.old ≤ 8 * length row.now }
+    ensures { out.new ≡ take (length out.old) (unpacked row.now) }
 {
     let n = out.len();
     let whole = n / 8;

@@ -1,89 +1,86 @@
 -- The bytes of events, messages and answers, as they are written. Numbers are eight bytes, the lowest first; a server is one
 -- byte; a text is its length and its bytes; a text or none is the byte 0, or the byte 1 and the text; a boolean is the byte
 -- 0 or 1. Assumes nothing: these are definitions.
-use mathlib.Core.Bool.{Bool, true, false}
-use mathlib.Core.List.{List, [], _∷_, _++_}
-use Prim.Native.Nat.{ℕ, zero, suc, _+_, _*_, _/_, _%_}
-use lib.ListN.{length}
-use Rattle·servers.specs.Store.{Perhaps, Command, get, put, remove, swap, drop-if, Reply}
-use Rattle·servers.specs.Server.{Entry, Message, ask-vote, vote, append, appended, Event, timeout, request, comes, restart, garbled}
-use Rattle·servers.specs.Server.{Said, Letter, Answer, refused, not-leader, does}
+use Rattle.std.specs.Prelude.{ℕ, zero, suc, ◌+◌, ◌*◌, ◌/◌, ◌%◌, Bool, true, false, List, [], ◌∷◌, ◌++◌, length}
+use Rattle.servers.specs.Store.{Perhaps, Command, get, put, remove, swap, drop_if, Reply}
+use Rattle.servers.specs.Server.{Entry, Message, ask_vote, vote, append, appended, Event, timeout, request, comes, restart, garbled}
+use Rattle.servers.specs.Server.{Said, Letter, Answer, refused, not_leader, does}
 
 -- n bytes of x, the lowest first
-abbrev pub bytes-of : ℕ → ℕ → List ℕ
-bytes-of zero x = []
-bytes-of (suc n) x = x % 256 ∷ bytes-of n (x / 256)
+abbrev pub bytes_of : ℕ → ℕ → List ℕ
+bytes_of zero x = []
+bytes_of (suc n) x = x % 256 ∷ bytes_of n (x / 256)
 
-unfoldable pub write-number : ℕ → List ℕ
-write-number x = bytes-of 8 x
+unfoldable pub write_number : ℕ → List ℕ
+write_number x = bytes_of 8 x
 
-abbrev pub write-text : List ℕ → List ℕ
-write-text t = write-number (length t) ++ t
+abbrev pub write_text : List ℕ → List ℕ
+write_text t = write_number (length t) ++ t
 
-abbrev pub write-perhaps : Perhaps → List ℕ
-write-perhaps [] = 0 ∷ []
-write-perhaps (t ∷ ts) = 1 ∷ write-text t
+abbrev pub write_perhaps : Perhaps → List ℕ
+write_perhaps [] = 0 ∷ []
+write_perhaps (t ∷ ts) = 1 ∷ write_text t
 
-abbrev pub write-bool : Bool → List ℕ
-write-bool false = 0 ∷ []
-write-bool true = 1 ∷ []
+abbrev pub write_bool : Bool → List ℕ
+write_bool false = 0 ∷ []
+write_bool true = 1 ∷ []
 
-abbrev pub write-command : Command → List ℕ
-write-command (get k) = 0 ∷ write-text k
-write-command (put k v) = 1 ∷ (write-text k ++ write-text v)
-write-command (remove k) = 2 ∷ write-text k
-write-command (swap k e v) = 3 ∷ (write-text k ++ (write-perhaps e ++ write-text v))
-write-command (drop-if k v) = 4 ∷ (write-text k ++ write-text v)
+abbrev pub write_command : Command → List ℕ
+write_command (get k) = 0 ∷ write_text k
+write_command (put k v) = 1 ∷ (write_text k ++ write_text v)
+write_command (remove k) = 2 ∷ write_text k
+write_command (swap k e v) = 3 ∷ (write_text k ++ (write_perhaps e ++ write_text v))
+write_command (drop_if k v) = 4 ∷ (write_text k ++ write_text v)
 
 -- an entry: the server that took it, client, number, index, term, command
-abbrev pub write-entry : Entry → List ℕ
-write-entry e =
-    e .at ∷
-    (write-number (e .client) ++ (write-number (e .id) ++
-    (write-number (e .index) ++ (write-number (e .term) ++ write-command (e .command)))))
+abbrev pub write_entry : Entry → List ℕ
+write_entry e =
+    e.at ∷
+    (write_number e.client ++ (write_number e.id ++
+    (write_number e.index ++ (write_number e.term ++ write_command e.command))))
 
 -- entries in the order of the list, which has the last first
-unfoldable pub write-entries : List Entry → List ℕ
-write-entries [] = []
-write-entries (e ∷ es) = write-entry e ++ write-entries es
+unfoldable pub write_entries : List Entry → List ℕ
+write_entries [] = []
+write_entries (e ∷ es) = write_entry e ++ write_entries es
 
-abbrev pub write-message : Message → List ℕ
-write-message (ask-vote t i u) = 0 ∷ (write-number t ++ (write-number i ++ write-number u))
-write-message (vote t ok) = 1 ∷ (write-number t ++ write-bool ok)
-write-message (append t i u es c) =
-    2 ∷ (write-number t ++ (write-number i ++ (write-number u ++ (write-number c ++ (write-number (length es) ++ write-entries es)))))
-write-message (appended t i ok) = 3 ∷ (write-number t ++ (write-number i ++ write-bool ok))
+abbrev pub write_message : Message → List ℕ
+write_message (ask_vote t i u) = 0 ∷ (write_number t ++ (write_number i ++ write_number u))
+write_message (vote t ok) = 1 ∷ (write_number t ++ write_bool ok)
+write_message (append t i u es c) =
+    2 ∷ (write_number t ++ (write_number i ++ (write_number u ++ (write_number c ++ (write_number (length es) ++ write_entries es)))))
+write_message (appended t i ok) = 3 ∷ (write_number t ++ (write_number i ++ write_bool ok))
 
 -- what can't be read has no bytes of its own
-abbrev pub write-event : Event → List ℕ
-write-event timeout = 0 ∷ []
-write-event (request c k x) = 1 ∷ (write-number c ++ (write-number k ++ write-command x))
-write-event (comes h m) = 2 ∷ (h ∷ write-message m)
-write-event restart = 3 ∷ []
-write-event (garbled n) = []
+abbrev pub write_event : Event → List ℕ
+write_event timeout = 0 ∷ []
+write_event (request c k x) = 1 ∷ (write_number c ++ (write_number k ++ write_command x))
+write_event (comes h m) = 2 ∷ (h ∷ write_message m)
+write_event restart = 3 ∷ []
+write_event (garbled n) = []
 
 -- an answer: what is told to clients, each with its number and reply, and letters, each with its receiver and its length, so
 -- that they can be handed on without being read
-abbrev pub write-said : Said → List ℕ
-write-said s =
-    write-number (s .client) ++ (write-number (s .id) ++ (write-perhaps (s .reply .now) ++ write-perhaps (s .reply .old)))
+abbrev pub write_said : Said → List ℕ
+write_said s =
+    write_number s.client ++ (write_number s.id ++ (write_perhaps s.reply.now ++ write_perhaps s.reply.old))
 
-unfoldable pub write-saids : List Said → List ℕ
-write-saids [] = []
-write-saids (s ∷ ss) = write-said s ++ write-saids ss
+unfoldable pub write_saids : List Said → List ℕ
+write_saids [] = []
+write_saids (s ∷ ss) = write_said s ++ write_saids ss
 
-abbrev pub write-letter : Letter → List ℕ
-write-letter x = x .to ∷ (write-number (length (write-message (x .message))) ++ write-message (x .message))
+abbrev pub write_letter : Letter → List ℕ
+write_letter x = x.to ∷ (write_number (length (write_message x.message)) ++ write_message x.message)
 
-unfoldable pub write-letters : List Letter → List ℕ
-write-letters [] = []
-write-letters (x ∷ xs) = write-letter x ++ write-letters xs
+unfoldable pub write_letters : List Letter → List ℕ
+write_letters [] = []
+write_letters (x ∷ xs) = write_letter x ++ write_letters xs
 
-abbrev pub write-answer : Answer → List ℕ
-write-answer (refused j k) = 0 ∷ (j ∷ write-number k)
-write-answer not-leader = 1 ∷ []
-write-answer (does ss ls) = 2 ∷ (write-number (length ss) ++ (write-saids ss ++ (write-number (length ls) ++ write-letters ls)))
+abbrev pub write_answer : Answer → List ℕ
+write_answer (refused j k) = 0 ∷ (j ∷ write_number k)
+write_answer not_leader = 1 ∷ []
+write_answer (does ss ls) = 2 ∷ (write_number (length ss) ++ (write_saids ss ++ (write_number (length ls) ++ write_letters ls)))
 
 -- a record of a file: its length and its bytes
-abbrev pub write-record : List ℕ → List ℕ
-write-record bs = write-number (length bs) ++ bs
+abbrev pub write_record : List ℕ → List ℕ
+write_record bs = write_number (length bs) ++ bs

@@ -1,99 +1,94 @@
 -- Entries one after the other: where the pass over them stands, and the first of them and the rest.
-use native.Mathlib.Omega.{arith}
-use mathlib.Core.Path.{_≡_, refl, sym, _∙_, ap}
-use mathlib.Core.Bool.{Bool, true, false}
-use mathlib.Core.List.{List, [], _∷_}
-use Prim.Native.Nat.{ℕ, zero, suc, _+_, _-_, _≤_, _<_}
-use lib.ListN.{length, drop}
-use Rattle·std.proofs.shelf.Tests.{both-ways}
-use Rattle·servers.specs.Server.{Entry}
-use Rattle·wire.specs.Read.{Read, got, stuck, and-then, read-entry, read-entries}
-use Rattle·wire_read·specs.Means.{list-read, is-got, passed}
+use Rattle.std.proofs.Common.{◌≡◌, ℕ, zero, suc, ◌+◌, ◌-◌, ◌<◌, ◌≤◌, Bool, true, false, List, [], ◌∷◌, length, drop, sym, refl, ap, ◌∙◌, arith}
+use Rattle.std.proofs.lemmas.Bool.{both_ways}
+use Rattle.servers.specs.Server.{Entry}
+use Rattle.wire.specs.Read.{Read, got, stuck, and_then, read_entry, read_entries}
+use Rattle.wire_read.specs.Means.{list_read, is_got, passed}
 
-got-passed : (x : Read (List Entry)) (e : Entry) → passed (and-then x (λ es z. got (e ∷ es) z)) ≡ passed x
-got-passed (got es z) e = refl
-got-passed (stuck k) e = refl
+got_passed : (x : Read (List Entry)) (e : Entry) → passed (and_then x (λ es z. got (e ∷ es) z)) ≡ passed x
+got_passed (got es z) e = refl
+got_passed (stuck k) e = refl
 
-got-first : {A B : Type 0} (x : Read A) (f : A → List ℕ → Read B) → is-got (and-then x f) ≡ true → is-got x ≡ true
-got-first (got a r) f p = refl
-got-first (stuck k) f p = p
+got_first : {A B : Type 0} (x : Read A) (f : A → List ℕ → Read B) → is_got (and_then x f) ≡ true → is_got x ≡ true
+got_first (got a r) f p = refl
+got_first (stuck k) f p = p
 
-got-list : (x : Read (List Entry)) (e : Entry) → is-got x ≡ true → list-read (and-then x (λ es z. got (e ∷ es) z)) ≡ e ∷ list-read x
-got-list (got es r) e p = refl
-got-list (stuck k) e p = absurd (both-ways false refl p)
+got_list : (x : Read (List Entry)) (e : Entry) → is_got x ≡ true → list_read (and_then x (λ es z. got (e ∷ es) z)) ≡ e ∷ list_read x
+got_list (got es r) e p = refl
+got_list (stuck k) e p = absurd (both_ways false refl p)
 
 counted :
     (n : ℕ) (x : Read Entry)
-    → is-got (and-then x (λ e r. and-then (read-entries n r) (λ es z. got (e ∷ es) z))) ≡ true
-    → ((r : List ℕ) → is-got (read-entries n r) ≡ true → length (list-read (read-entries n r)) ≡ n)
-    → length (list-read (and-then x (λ e r. and-then (read-entries n r) (λ es z. got (e ∷ es) z)))) ≡ suc n
+    → is_got (and_then x (λ e r. and_then (read_entries n r) (λ es z. got (e ∷ es) z))) ≡ true
+    → ((r : List ℕ) → is_got (read_entries n r) ≡ true → length (list_read (read_entries n r)) ≡ n)
+    → length (list_read (and_then x (λ e r. and_then (read_entries n r) (λ es z. got (e ∷ es) z)))) ≡ suc n
 counted n (got e r) p f =
-    let q = got-first (read-entries n r) (λ es z. got (e ∷ es) z) p in
-    rw (got-list (read-entries n r) e q) (ap suc (f r q))
-counted n (stuck k) p f = absurd (both-ways false refl p)
+    let q = got_first (read_entries n r) (λ es z. got (e ∷ es) z) p in
+    rw (got_list (read_entries n r) e q) (ap suc (f r q))
+counted n (stuck k) p f = absurd (both_ways false refl p)
 
 -- one more entry was passed
-pub passed-more :
+pub passed_more :
     (n : ℕ) (d r : List ℕ) (e : Entry) → 0 < n
-    → got e r ≡ read-entry d
-    → passed (read-entries n d) ≡ passed (read-entries (n - 1) r)
-unfolding read-entries
-passed-more zero d r e h p = absurd (omega arith)
-passed-more (suc n) d r e h p =
+    → got e r ≡ read_entry d
+    → passed (read_entries n d) ≡ passed (read_entries (n - 1) r)
+unfolding read_entries
+passed_more zero d r e h p = absurd (omega arith)
+passed_more (suc n) d r e h p =
     let k : suc n - 1 ≡ n = omega arith in
-    rw (← p, k) (got-passed (read-entries n r) e)
+    rw (← p, k) (got_passed (read_entries n r) e)
 
 -- an entry was refused
-pub passed-refused : (n k : ℕ) (d : List ℕ) → 0 < n → stuck k ≡ read-entry d → passed (read-entries n d) ≡ stuck k
-unfolding read-entries
-passed-refused zero k d h p = absurd (omega arith)
-passed-refused (suc n) k d h p = rw (← p) refl
+pub passed_refused : (n k : ℕ) (d : List ℕ) → 0 < n → stuck k ≡ read_entry d → passed (read_entries n d) ≡ stuck k
+unfolding read_entries
+passed_refused zero k d h p = absurd (omega arith)
+passed_refused (suc n) k d h p = rw (← p) refl
 
 -- none is left
-pub passed-none : (n : ℕ) (d : List ℕ) → n ≡ 0 → passed (read-entries n d) ≡ got tt d
-unfolding read-entries
-passed-none n d e = rw e refl
+pub passed_none : (n : ℕ) (d : List ℕ) → n ≡ 0 → passed (read_entries n d) ≡ got tt d
+unfolding read_entries
+passed_none n d e = rw e refl
 
-pub from-passed-got : (x : Read (List Entry)) (r : List ℕ) → passed x ≡ got tt r → (got (list-read x) r ≡ x) × (is-got x ≡ true)
-from-passed-got (got es z) r p = (cc, refl)
-from-passed-got (stuck k) r p = absurd (let y : _≡_ {A = ℕ} 0 1 = cc in omega arith)
+pub from_passed_got : (x : Read (List Entry)) (r : List ℕ) → passed x ≡ got tt r → (got (list_read x) r ≡ x) × (is_got x ≡ true)
+from_passed_got (got es z) r p = (cc, refl)
+from_passed_got (stuck k) r p = absurd (let y : ◌≡◌ {A = ℕ} 0 1 = cc in omega arith)
 
-pub from-passed-stuck : (x : Read (List Entry)) (k : ℕ) → passed x ≡ stuck k → x ≡ stuck k
-from-passed-stuck (got es z) k p = absurd (let y : _≡_ {A = ℕ} 0 1 = cc in omega arith)
-from-passed-stuck (stuck j) k p = cc
+pub from_passed_stuck : (x : Read (List Entry)) (k : ℕ) → passed x ≡ stuck k → x ≡ stuck k
+from_passed_stuck (got es z) k p = absurd (let y : ◌≡◌ {A = ℕ} 0 1 = cc in omega arith)
+from_passed_stuck (stuck j) k p = cc
 
 -- entries that are there: the first, and the rest after it
-pub first-there : (n : ℕ) (d : List ℕ) → 0 < n → is-got (read-entries n d) ≡ true → is-got (read-entry d) ≡ true
-unfolding read-entries
-first-there zero d h p = absurd (omega arith)
-first-there (suc n) d h p = got-first (read-entry d) _ p
+pub first_there : (n : ℕ) (d : List ℕ) → 0 < n → is_got (read_entries n d) ≡ true → is_got (read_entry d) ≡ true
+unfolding read_entries
+first_there zero d h p = absurd (omega arith)
+first_there (suc n) d h p = got_first (read_entry d) _ p
 
-pub rest-there :
+pub rest_there :
     (n : ℕ) (d r : List ℕ) (e : Entry) → 0 < n
-    → got e r ≡ read-entry d
-    → is-got (read-entries n d) ≡ true
-    → is-got (read-entries (n - 1) r) ≡ true
-unfolding read-entries
-rest-there zero d r e h q p = absurd (omega arith)
-rest-there (suc n) d r e h q p =
+    → got e r ≡ read_entry d
+    → is_got (read_entries n d) ≡ true
+    → is_got (read_entries (n - 1) r) ≡ true
+unfolding read_entries
+rest_there zero d r e h q p = absurd (omega arith)
+rest_there (suc n) d r e h q p =
     let k : suc n - 1 ≡ n = omega arith in
     let z = rw (← q) at p in
-    rw k (got-first (read-entries n r) _ z)
+    rw k (got_first (read_entries n r) _ z)
 
-pub entries-more :
+pub entries_more :
     (n : ℕ) (d r : List ℕ) (e : Entry) → 0 < n
-    → got e r ≡ read-entry d
-    → is-got (read-entries n d) ≡ true
-    → list-read (read-entries n d) ≡ e ∷ list-read (read-entries (n - 1) r)
-unfolding read-entries
-entries-more zero d r e h q p = absurd (omega arith)
-entries-more (suc n) d r e h q p =
+    → got e r ≡ read_entry d
+    → is_got (read_entries n d) ≡ true
+    → list_read (read_entries n d) ≡ e ∷ list_read (read_entries (n - 1) r)
+unfolding read_entries
+entries_more zero d r e h q p = absurd (omega arith)
+entries_more (suc n) d r e h q p =
     let k : suc n - 1 ≡ n = omega arith in
     let z = rw (← q) at p in
-    rw (← q, k) (got-list (read-entries n r) e (got-first (read-entries n r) _ z))
+    rw (← q, k) (got_list (read_entries n r) e (got_first (read_entries n r) _ z))
 
 -- there are as many as were counted
-pub entries-length : (n : ℕ) (d : List ℕ) → is-got (read-entries n d) ≡ true → length (list-read (read-entries n d)) ≡ n
-unfolding read-entries
-entries-length zero d p = refl
-entries-length (suc n) d p = counted n (read-entry d) p (λ r q. entries-length n r q)
+pub entries_length : (n : ℕ) (d : List ℕ) → is_got (read_entries n d) ≡ true → length (list_read (read_entries n d)) ≡ n
+unfolding read_entries
+entries_length zero d p = refl
+entries_length (suc n) d p = counted n (read_entry d) p (λ r q. entries_length n r q)

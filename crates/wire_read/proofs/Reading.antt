@@ -1,17 +1,10 @@
 -- How readers' promises are joined: what is read after a value, a refusal that is handed on, and readers that go by a tag.
-use native.Mathlib.Omega.{arith}
-use mathlib.Core.Path.{_≡_, sym, _∙_, ap}
-use mathlib.Core.List.{List, [], _∷_}
-use Prim.Native.Nat.{ℕ, _-_, _≤_}
-use lib.ListN.{length, drop}
-use Rattle·std.specs.Results.{ErrBy}
-use Rattle·std.specs.declared.result.Result.{Result}
-use Rattle·std.specs.declared.result.Result.the-variants.{Ok, Err}
-use Rattle·std.proofs.shelf.Results.{err-from-errBy}
-use Rattle·std.proofs.shelf.Lists.{length-drop}
-use Rattle·wire.specs.Read.{Read, got, stuck, and-then, bad, read-byte}
-use Rattle·wire_read·specs.Means.{Reads, itself, any}
-use Rattle·wire_read·proofs.Laws.{front}
+use Rattle.std.proofs.Common.{◌≡◌, ℕ, ◌-◌, ◌≤◌, List, [], ◌∷◌, length, drop, IsErrAnd, Ok, Err, Result, sym, ap, ◌∙◌, arith}
+use Rattle.std.proofs.lemmas.Result.{err_from_is_err_and}
+use Rattle.std.proofs.lemmas.List.{length-drop}
+use Rattle.wire.specs.Read.{Read, got, stuck, and_then, bad, read_byte}
+use Rattle.wire_read.specs.Means.{Reads, itself, any}
+use Rattle.wire_read.proofs.Laws.{front}
 
 module _ {W B : Type 0} {g : W → B} {Q : W → Type 0} where
   -- a value that is made here
@@ -23,56 +16,56 @@ module _ {W B : Type 0} {g : W → B} {Q : W → Type 0} where
   refuses bs k e h = record { value = sym e; within = h }
 
   -- the exit of a `?` returns the refusal
-  pub handed-on :
+  pub handed_on :
       {bs : List ℕ} {d : Read B} {k : ℕ} (r : Result (W × ℕ) ℕ)
-      → ErrBy r (λ y. y ≡ k)
+      → IsErrAnd r (λ y. y ≡ k)
       → Reads g Q bs d (Err k)
       → Reads g Q bs d r
-  handed-on r e p = let x = err-from-errBy r e in rw (x .1, x .2) p
+  handed_on r e p = let x = err_from_is_err_and r e in rw (x.1, x.2) p
 
   module _ {V A : Type 0} {f : V → A} {P : V → Type 0} {bs : List ℕ} {d : Read A} where
     -- a value was read: the rest is read where it ends
-    pub reads-then :
+    pub reads_then :
         {v : V} {n : ℕ} {r : Result (W × ℕ) ℕ} (h : A → List ℕ → Read B)
         → Reads f P bs d (Ok (v, n))
         → Reads g Q bs (h (f v) (drop n bs)) r
-        → Reads g Q bs (and-then d h) r
-    reads-then h p q = record { value = q .value ∙ ap (λ z. and-then z h) (p .value); within = q .within }
+        → Reads g Q bs (and_then d h) r
+    reads_then h p q = record { value = q.value ∙ ap (λ z. and_then z h) p.value; within = q.within }
 
     -- a value was refused: so is the whole, at the same place
     pub exits :
         {k : ℕ} {r : Result (W × ℕ) ℕ} (h : A → List ℕ → Read B)
-        → ErrBy r (λ y. y ≡ k)
+        → IsErrAnd r (λ y. y ≡ k)
         → Reads f P bs d (Err k)
-        → Reads g Q bs (and-then d h) r
-    exits {r = r} h e p = handed-on r e (record { value = ap (λ z. and-then z h) (p .value); within = p .within })
+        → Reads g Q bs (and_then d h) r
+    exits {r = r} h e p = handed_on r e (record { value = ap (λ z. and_then z h) p.value; within = p.within })
 
   -- no tag
-  pub tag-exits :
+  pub tag_exits :
       {bs : List ℕ} {k : ℕ} {r : Result (W × ℕ) ℕ} (D : List ℕ → Read B) (d : List ℕ)
-      → ErrBy r (λ y. y ≡ k)
-      → Reads itself any bs (read-byte d) (Err k)
+      → IsErrAnd r (λ y. y ≡ k)
+      → Reads itself any bs (read_byte d) (Err k)
       → D [] ≡ stuck 0
       → Reads g Q bs (D d) r
-  tag-exits {r = r} D [] e p z = handed-on r e (record { value = ap stuck (cc (p .value)) ∙ sym z; within = p .within })
-  tag-exits D (x ∷ xs) e p z = absurd (let v = p .value in let y : _≡_ {A = ℕ} 0 1 = cc in omega arith)
+  tag_exits {r = r} D [] e p z = handed_on r e (record { value = ap stuck (cc p.value) ∙ sym z; within = p.within })
+  tag_exits D (x ∷ xs) e p z = absurd (let v = p.value in let y : ◌≡◌ {A = ℕ} 0 1 = cc in omega arith)
 
   -- a tag that is known
   pub tagged :
       {bs d : List ℕ} {tag n : ℕ} {r : Result (W × ℕ) ℕ} (D : List ℕ → Read B) (k : ℕ)
-      → Reads itself any bs (read-byte d) (Ok (tag, n))
+      → Reads itself any bs (read_byte d) (Ok (tag, n))
       → tag ≡ k
       → Reads g Q bs (D (k ∷ drop n bs)) r
       → Reads g Q bs (D d) r
-  tagged {bs = bs} {d = d} {tag = tag} {n = n} D k p e q = rw (front tag d (drop n bs) (p .value), e) q
+  tagged {bs = bs} {d = d} {tag = tag} {n = n} D k p e q = rw (front tag d (drop n bs) p.value, e) q
 
   -- a tag that can't stand there
-  pub tag-refused :
+  pub tag_refused :
       {bs : List ℕ} {at tag n : ℕ} (D : List ℕ → Read B)
       → at ≤ length bs
-      → Reads itself any bs (read-byte (drop at bs)) (Ok (tag, n))
+      → Reads itself any bs (read_byte (drop at bs)) (Ok (tag, n))
       → D (tag ∷ drop n bs) ≡ bad (tag ∷ drop n bs)
       → Reads g Q bs (D (drop at bs)) (Err at)
-  tag-refused {bs = bs} {at = at} {tag = tag} {n = n} D h p e =
-      let q = front tag (drop at bs) (drop n bs) (p .value) in
+  tag_refused {bs = bs} {at = at} {tag = tag} {n = n} D h p e =
+      let q = front tag (drop at bs) (drop n bs) p.value in
       refuses bs at (ap D q ∙ (e ∙ (ap bad (sym q) ∙ ap stuck (length-drop at bs)))) h

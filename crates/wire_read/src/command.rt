@@ -1,27 +1,23 @@
 // Readers of commands and entries.
-ghost use Prim.Native.Nat.{_≤_};
-ghost use lib.ListN.{length};
-ghost use Rattle·wire_read·specs.Arms.{read-drop-if, read-get, read-put, read-remove, read-swap};
-ghost use Rattle·wire_read·specs.Means.{Reads-command, Reads-entry};
-ghost use Rattle·wire.specs.Read.{read-command, read-entry};
-use crate::parts::Command;
-use crate::parts::Entry;
-use crate::read::read_byte;
-use crate::read::read_number;
-use crate::read::read_perhaps;
-use crate::read::read_text;
+ghost use Rattle.std.specs.Prelude.{◌≤◌, length};
+ghost use Rattle.wire_read.specs.Arms.{read_drop_if, read_get, read_put, read_remove, read_swap};
+ghost use Rattle.wire_read.specs.Means.{ReadsCommand, ReadsEntry};
+ghost use Rattle.wire.specs.Read.{read_command, read_entry};
+
+use crate::parts::{Command, Entry};
+use crate::read::{read_byte, read_number, read_perhaps, read_text};
 
 fn read_get(b: &[u8], at: usize) -> Result<(Command, usize), usize>
-    requires { ⌜ at ≤ length (now b) ⌝ }
-    ensures { λ r. ⌜ Reads-command (now (b .entry)) at read-get r ⌝ }
+    requires { at ≤ length b.now }
+    ensures { ReadsCommand b.now at read_get result }
 {
     let (name, next) = read_text(b, at)?;
     Ok((Command::Get(name), next))
 }
 
 fn read_put(b: &[u8], at: usize) -> Result<(Command, usize), usize>
-    requires { ⌜ at ≤ length (now b) ⌝ }
-    ensures { λ r. ⌜ Reads-command (now (b .entry)) at read-put r ⌝ }
+    requires { at ≤ length b.now }
+    ensures { ReadsCommand b.now at read_put result }
 {
     let (name, next) = read_text(b, at)?;
     let (text, next) = read_text(b, next)?;
@@ -29,16 +25,16 @@ fn read_put(b: &[u8], at: usize) -> Result<(Command, usize), usize>
 }
 
 fn read_remove(b: &[u8], at: usize) -> Result<(Command, usize), usize>
-    requires { ⌜ at ≤ length (now b) ⌝ }
-    ensures { λ r. ⌜ Reads-command (now (b .entry)) at read-remove r ⌝ }
+    requires { at ≤ length b.now }
+    ensures { ReadsCommand b.now at read_remove result }
 {
     let (name, next) = read_text(b, at)?;
     Ok((Command::Remove(name), next))
 }
 
 fn read_swap(b: &[u8], at: usize) -> Result<(Command, usize), usize>
-    requires { ⌜ at ≤ length (now b) ⌝ }
-    ensures { λ r. ⌜ Reads-command (now (b .entry)) at read-swap r ⌝ }
+    requires { at ≤ length b.now }
+    ensures { ReadsCommand b.now at read_swap result }
 {
     let (name, next) = read_text(b, at)?;
     let (expected, next) = read_perhaps(b, next)?;
@@ -47,8 +43,8 @@ fn read_swap(b: &[u8], at: usize) -> Result<(Command, usize), usize>
 }
 
 fn read_drop_if(b: &[u8], at: usize) -> Result<(Command, usize), usize>
-    requires { ⌜ at ≤ length (now b) ⌝ }
-    ensures { λ r. ⌜ Reads-command (now (b .entry)) at read-drop-if r ⌝ }
+    requires { at ≤ length b.now }
+    ensures { ReadsCommand b.now at read_drop_if result }
 {
     let (name, next) = read_text(b, at)?;
     let (text, next) = read_text(b, next)?;
@@ -56,8 +52,8 @@ fn read_drop_if(b: &[u8], at: usize) -> Result<(Command, usize), usize>
 }
 
 pub fn read_command(b: &[u8], at: usize) -> Result<(Command, usize), usize>
-    requires { ⌜ at ≤ length (now b) ⌝ }
-    ensures { λ r. ⌜ Reads-command (now (b .entry)) at read-command r ⌝ }
+    requires { at ≤ length b.now }
+    ensures { ReadsCommand b.now at read_command result }
 {
     let (tag, next) = read_byte(b, at)?;
     match tag {
@@ -71,8 +67,8 @@ pub fn read_command(b: &[u8], at: usize) -> Result<(Command, usize), usize>
 }
 
 pub fn checked_entry(b: &[u8], at: usize) -> Result<(Entry, usize), usize>
-    requires { ⌜ at ≤ length (now b) ⌝ }
-    ensures { λ r. ⌜ Reads-entry (now (b .entry)) at read-entry r ⌝ }
+    requires { at ≤ length b.now }
+    ensures { ReadsEntry b.now at read_entry result }
 {
     let (server, next) = read_byte(b, at)?;
     let (client, next) = read_number(b, next)?;

@@ -1,19 +1,17 @@
 // THE READER of events: every slice of bytes is an event, or is garbled at a place.
-ghost use Prim.Native.Nat.{_≤_};
-ghost use lib.ListN.{length};
-ghost use mathlib.Core.Path.{_≡_};
-ghost use Rattle·wire_read·specs.Arms.{read-comes, read-request};
-ghost use Rattle·wire_read·specs.Means.{Event-in, Reads-event, means};
-ghost use Rattle·wire.specs.Read.{read-event, read-front};
+ghost use Rattle.std.specs.Prelude.{◌≡◌, ◌≤◌, length};
+ghost use Rattle.wire_read.specs.Arms.{read_comes, read_request};
+ghost use Rattle.wire_read.specs.Means.{EventIn, ReadsEvent, means};
+ghost use Rattle.wire.specs.Read.{read_event, read_front};
+
 use crate::command::read_command;
 use crate::message::read_message;
 use crate::parts::Event;
-use crate::read::read_byte;
-use crate::read::read_number;
+use crate::read::{read_byte, read_number};
 
 fn read_request(b: &[u8], at: usize) -> Result<(Event, usize), usize>
-    requires { ⌜ at ≤ length (now b) ⌝ }
-    ensures { λ r. ⌜ Reads-event (now (b .entry)) at read-request r ⌝ }
+    requires { at ≤ length b.now }
+    ensures { ReadsEvent b.now at read_request result }
 {
     let (client, next) = read_number(b, at)?;
     let (id, next) = read_number(b, next)?;
@@ -22,8 +20,8 @@ fn read_request(b: &[u8], at: usize) -> Result<(Event, usize), usize>
 }
 
 fn read_comes(b: &[u8], at: usize) -> Result<(Event, usize), usize>
-    requires { ⌜ at ≤ length (now b) ⌝ }
-    ensures { λ r. ⌜ Reads-event (now (b .entry)) at read-comes r ⌝ }
+    requires { at ≤ length b.now }
+    ensures { ReadsEvent b.now at read_comes result }
 {
     let (from, next) = read_byte(b, at)?;
     let (message, next) = read_message(b, next)?;
@@ -31,8 +29,8 @@ fn read_comes(b: &[u8], at: usize) -> Result<(Event, usize), usize>
 }
 
 fn read_front(b: &[u8], at: usize) -> Result<(Event, usize), usize>
-    requires { ⌜ at ≤ length (now b) ⌝ }
-    ensures { λ r. ⌜ Reads-event (now (b .entry)) at read-front r ⌝ }
+    requires { at ≤ length b.now }
+    ensures { ReadsEvent b.now at read_front result }
 {
     let (tag, next) = read_byte(b, at)?;
     match tag {
@@ -46,8 +44,8 @@ fn read_front(b: &[u8], at: usize) -> Result<(Event, usize), usize>
 
 // Bytes after the end of an event are refused at the first of them.
 pub fn read_event(b: &[u8]) -> Event
-    ensures value { λ r. ⌜ means (now (b .entry)) r ≡ read-event (now (b .entry)) ⌝ }
-    ensures within { λ r. ⌜ Event-in (now (b .entry)) r ⌝ }
+    ensures value { means b.now result ≡ read_event b.now }
+    ensures within { EventIn b.now result }
 {
     match read_front(b, 0) {
         Ok((event, next)) => {

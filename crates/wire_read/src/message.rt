@@ -1,20 +1,17 @@
 // Readers of messages. The entries of an append are passed over once, and stay where they are.
-ghost use Prim.Native.Nat.{_≤_};
-ghost use lib.ListN.{length};
-ghost use Rattle·wire_read·specs.Arms.{read-appended, read-ask-vote, read-vote};
-ghost use Rattle·wire_read·specs.Means.{Reads-entries, Reads-message};
-ghost use Rattle·wire.specs.Read.{read-append, read-entries, read-message};
+ghost use Rattle.std.specs.Prelude.{◌≤◌, length};
+ghost use Rattle.wire_read.specs.Arms.{read_appended, read_ask_vote, read_vote};
+ghost use Rattle.wire_read.specs.Means.{ReadsEntries, ReadsMessage};
+ghost use Rattle.wire.specs.Read.{read_append, read_entries, read_message};
+
 use crate::command::checked_entry;
-use crate::parts::Entries;
-use crate::parts::Message;
-use crate::read::read_bool;
-use crate::read::read_byte;
-use crate::read::read_number;
+use crate::parts::{Entries, Message};
+use crate::read::{read_bool, read_byte, read_number};
 
 // So many entries, up to the first that is refused: a count that is too large costs only the bytes that are there.
 pub fn read_entries(b: &[u8], at: usize, count: u64) -> Result<(Entries, usize), usize>
-    requires { ⌜ at ≤ length (now b) ⌝ }
-    ensures { λ r. ⌜ Reads-entries (now (b .entry)) at (read-entries count) r ⌝ }
+    requires { at ≤ length b.now }
+    ensures { ReadsEntries b.now at (read_entries count) result }
 {
     let mut next = at;
     for _k in 0..count {
@@ -25,8 +22,8 @@ pub fn read_entries(b: &[u8], at: usize, count: u64) -> Result<(Entries, usize),
 }
 
 fn read_ask_vote(b: &[u8], at: usize) -> Result<(Message, usize), usize>
-    requires { ⌜ at ≤ length (now b) ⌝ }
-    ensures { λ r. ⌜ Reads-message (now (b .entry)) at read-ask-vote r ⌝ }
+    requires { at ≤ length b.now }
+    ensures { ReadsMessage b.now at read_ask_vote result }
 {
     let (term, next) = read_number(b, at)?;
     let (index, next) = read_number(b, next)?;
@@ -35,8 +32,8 @@ fn read_ask_vote(b: &[u8], at: usize) -> Result<(Message, usize), usize>
 }
 
 fn read_vote(b: &[u8], at: usize) -> Result<(Message, usize), usize>
-    requires { ⌜ at ≤ length (now b) ⌝ }
-    ensures { λ r. ⌜ Reads-message (now (b .entry)) at read-vote r ⌝ }
+    requires { at ≤ length b.now }
+    ensures { ReadsMessage b.now at read_vote result }
 {
     let (term, next) = read_number(b, at)?;
     let (granted, next) = read_bool(b, next)?;
@@ -44,8 +41,8 @@ fn read_vote(b: &[u8], at: usize) -> Result<(Message, usize), usize>
 }
 
 fn read_append(b: &[u8], at: usize) -> Result<(Message, usize), usize>
-    requires { ⌜ at ≤ length (now b) ⌝ }
-    ensures { λ r. ⌜ Reads-message (now (b .entry)) at read-append r ⌝ }
+    requires { at ≤ length b.now }
+    ensures { ReadsMessage b.now at read_append result }
 {
     let (term, next) = read_number(b, at)?;
     let (before, next) = read_number(b, next)?;
@@ -60,8 +57,8 @@ fn read_append(b: &[u8], at: usize) -> Result<(Message, usize), usize>
 }
 
 fn read_appended(b: &[u8], at: usize) -> Result<(Message, usize), usize>
-    requires { ⌜ at ≤ length (now b) ⌝ }
-    ensures { λ r. ⌜ Reads-message (now (b .entry)) at read-appended r ⌝ }
+    requires { at ≤ length b.now }
+    ensures { ReadsMessage b.now at read_appended result }
 {
     let (term, next) = read_number(b, at)?;
     let (index, next) = read_number(b, next)?;
@@ -70,8 +67,8 @@ fn read_appended(b: &[u8], at: usize) -> Result<(Message, usize), usize>
 }
 
 pub fn read_message(b: &[u8], at: usize) -> Result<(Message, usize), usize>
-    requires { ⌜ at ≤ length (now b) ⌝ }
-    ensures { λ r. ⌜ Reads-message (now (b .entry)) at read-message r ⌝ }
+    requires { at ≤ length b.now }
+    ensures { ReadsMessage b.now at read_message result }
 {
     let (tag, next) = read_byte(b, at)?;
     match tag {

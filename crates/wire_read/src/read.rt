@@ -1,16 +1,15 @@
 // Readers of bytes, numbers and texts. Each takes the bytes and a place, and gives the value and the place after it, or the
 // place where it is refused: a byte that can't stand there, or the end of the bytes.
-ghost use mathlib.Core.Path.{_≡_};
-ghost use Prim.Native.Nat.{ℕ, _+_, _≤_};
-ghost use lib.ListN.{length, take, drop};
-ghost use Rattle·wire.specs.Read.{number-of, read-byte, read-number, read-text, read-bool, read-perhaps};
-ghost use Rattle·wire_read·specs.Arms.{read-some};
-ghost use Rattle·wire_read·specs.Means.{Reads-perhaps, Reads-plain, Reads-text};
+ghost use Rattle.std.specs.Prelude.{◌≡◌, ℕ, ◌+◌, ◌≤◌, length, take, drop};
+ghost use Rattle.wire.specs.Read.{number_of, read_byte, read_number, read_text, read_bool, read_perhaps};
+ghost use Rattle.wire_read.specs.Arms.{read_some};
+ghost use Rattle.wire_read.specs.Means.{ReadsPerhaps, ReadsPlain, ReadsText};
+
 use crate::parts::Text;
 
 pub fn read_byte(b: &[u8], at: usize) -> Result<(u8, usize), usize>
-    requires { ⌜ at ≤ length (now b) ⌝ }
-    ensures { λ r. ⌜ Reads-plain (now (b .entry)) at read-byte r ⌝ }
+    requires { at ≤ length b.now }
+    ensures { ReadsPlain b.now at read_byte result }
 {
     if at == b.len() {
         return Err(at);
@@ -20,8 +19,8 @@ pub fn read_byte(b: &[u8], at: usize) -> Result<(u8, usize), usize>
 
 // Eight bytes at a place that has them.
 pub fn number_at(b: &[u8], at: usize) -> u64
-    requires { ⌜ at + 8 ≤ length (now b) ⌝ }
-    ensures { λ r. ⌜ r ≡ number-of (take 8 (drop at (now (b .entry)))) ⌝ }
+    requires { at + 8 ≤ length b.now }
+    ensures { result ≡ number_of (take 8 (drop at b.now)) }
 {
     let mut front = [0u8; 8];
     front.copy_from_slice(&b[at..at + 8]);
@@ -29,8 +28,8 @@ pub fn number_at(b: &[u8], at: usize) -> u64
 }
 
 pub fn read_number(b: &[u8], at: usize) -> Result<(u64, usize), usize>
-    requires { ⌜ at ≤ length (now b) ⌝ }
-    ensures { λ r. ⌜ Reads-plain (now (b .entry)) at read-number r ⌝ }
+    requires { at ≤ length b.now }
+    ensures { ReadsPlain b.now at read_number result }
 {
     if b.len() - at < 8 {
         return Err(b.len());
@@ -40,8 +39,8 @@ pub fn read_number(b: &[u8], at: usize) -> Result<(u64, usize), usize>
 
 // A text's bytes are not looked at.
 pub fn read_text(b: &[u8], at: usize) -> Result<(Text, usize), usize>
-    requires { ⌜ at ≤ length (now b) ⌝ }
-    ensures { λ r. ⌜ Reads-text (now (b .entry)) at read-text r ⌝ }
+    requires { at ≤ length b.now }
+    ensures { ReadsText b.now at read_text result }
 {
     let (len, next) = read_number(b, at)?;
     if len > (b.len() - next) as u64 {
@@ -58,8 +57,8 @@ pub fn read_text(b: &[u8], at: usize) -> Result<(Text, usize), usize>
 
 // One of two bytes.
 pub fn read_bool(b: &[u8], at: usize) -> Result<(bool, usize), usize>
-    requires { ⌜ at ≤ length (now b) ⌝ }
-    ensures { λ r. ⌜ Reads-plain (now (b .entry)) at read-bool r ⌝ }
+    requires { at ≤ length b.now }
+    ensures { ReadsPlain b.now at read_bool result }
 {
     let (tag, next) = read_byte(b, at)?;
     match tag {
@@ -70,8 +69,8 @@ pub fn read_bool(b: &[u8], at: usize) -> Result<(bool, usize), usize>
 }
 
 fn read_some(b: &[u8], at: usize) -> Result<(Option<Text>, usize), usize>
-    requires { ⌜ at ≤ length (now b) ⌝ }
-    ensures { λ r. ⌜ Reads-perhaps (now (b .entry)) at read-some r ⌝ }
+    requires { at ≤ length b.now }
+    ensures { ReadsPerhaps b.now at read_some result }
 {
     let (text, next) = read_text(b, at)?;
     Ok((Some(text), next))
@@ -79,8 +78,8 @@ fn read_some(b: &[u8], at: usize) -> Result<(Option<Text>, usize), usize>
 
 // A text or none.
 pub fn read_perhaps(b: &[u8], at: usize) -> Result<(Option<Text>, usize), usize>
-    requires { ⌜ at ≤ length (now b) ⌝ }
-    ensures { λ r. ⌜ Reads-perhaps (now (b .entry)) at read-perhaps r ⌝ }
+    requires { at ≤ length b.now }
+    ensures { ReadsPerhaps b.now at read_perhaps result }
 {
     let (tag, next) = read_byte(b, at)?;
     match tag {

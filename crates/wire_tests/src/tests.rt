@@ -1,14 +1,10 @@
 // The tables. Bytes are written out as they go over the wire: numbers eight bytes, the lowest first.
-use crate::begins;
-use crate::place;
-use std::test::*;
+use crate::{begins, place};
+use std::test::Fail;
 use wire_read::event::read_event;
 use wire_read::forward::next_entry;
-use wire_read::parts::Event;
-use wire_read::parts::Message;
-use wire_write::answer;
-use wire_write::message;
-use wire_write::put;
+use wire_read::parts::{Event, Message};
+use wire_write::{answer, message, put};
 
 const TIMEOUT: &[u8; 1] = b"\0";
 
@@ -50,34 +46,33 @@ const APPEND_TWO: &[u8; 149] =
     \x06\0\0\0\0\0\0\0\x02\0\0\0\0\0\0\0\x04\0\0\0\0\0\0\0\0\x03\0\0\0\0\0\0\0hut";
 
 #[test]
-fn beginnings_are_refused_at_their_end() -> Result<(), Fail> {
-    check(begins(TIMEOUT)).note("timeout")?;
-    check(begins(RESTART)).note("restart")?;
-    check(begins(GET)).note("get")?;
-    check(begins(PUT)).note("put")?;
-    check(begins(REMOVE)).note("remove")?;
-    check(begins(SWAP_NONE)).note("swap_none")?;
-    check(begins(SWAP_SOME)).note("swap_some")?;
-    check(begins(DROP_IF)).note("drop_if")?;
-    check(begins(ASK_VOTE)).note("ask_vote")?;
-    check(begins(VOTE)).note("vote")?;
-    check(begins(APPENDED)).note("appended")?;
-    check(begins(APPEND_NONE)).note("append_none")?;
-    check(begins(APPEND_TWO)).note("append_two")?;
-    Ok(())
+fn beginnings_are_refused_at_their_end(rt: HostRuntime) {
+    assert!(rt; begins(TIMEOUT), "timeout");
+    assert!(rt; begins(RESTART), "restart");
+    assert!(rt; begins(GET), "get");
+    assert!(rt; begins(PUT), "put");
+    assert!(rt; begins(REMOVE), "remove");
+    assert!(rt; begins(SWAP_NONE), "swap_none");
+    assert!(rt; begins(SWAP_SOME), "swap_some");
+    assert!(rt; begins(DROP_IF), "drop_if");
+    assert!(rt; begins(ASK_VOTE), "ask_vote");
+    assert!(rt; begins(VOTE), "vote");
+    assert!(rt; begins(APPENDED), "appended");
+    assert!(rt; begins(APPEND_NONE), "append_none");
+    assert!(rt; begins(APPEND_TWO), "append_two");
 }
 
 // A byte too many is refused at its place.
 #[test]
-fn nothing_stands_after_an_event() -> Result<(), Fail> {
-    check_eq(place(&[0, 0]), Some(1))?;
-    check_eq(place(&[3, 0]), Some(1))?;
+fn nothing_stands_after_an_event(rt: HostRuntime) {
+    assert_eq!(rt; place(&[0, 0]), Some(1));
+    assert_eq!(rt; place(&[3, 0]), Some(1));
     let mut more = [0u8; 13];
     more[0..12].copy_from_slice(VOTE);
-    check_eq(place(&more), Some(12)).note("vote")?;
+    assert_eq!(rt; place(&more), Some(12), "vote");
     let mut more = [0u8; 44];
     more[0..43].copy_from_slice(APPEND_NONE);
-    check_eq(place(&more), Some(43)).note("append")
+    assert_eq!(rt; place(&more), Some(43), "append");
 }
 
 // What a vote is refused at with another byte at a place.
@@ -103,66 +98,66 @@ fn expected(at: usize, x: u8) -> Option<usize> {
 }
 
 #[test]
-fn each_byte_of_a_vote_changed() -> Result<(), Fail> {
+fn each_byte_of_a_vote_changed(rt: HostRuntime) {
     for at in 0..12 {
         for x in 0..=255u8 {
             let mut b = *VOTE;
             b[at] = x;
-            check_eq(place(&b), expected(at, x))?;
+            assert_eq!(rt; place(&b), expected(at, x));
         }
     }
-    Ok(())
 }
 
 // Counts and lengths that are larger than the bytes can be.
 #[test]
-fn hostile_counts() -> Result<(), Fail> {
+fn hostile_counts(rt: HostRuntime) {
     let mut b = *APPEND_NONE;
     b[35..43].fill(255);
-    check_eq(place(&b), Some(43)).note("2^64 - 1 entries")?;
+    assert_eq!(rt; place(&b), Some(43), "2^64 - 1 entries");
     let mut b = *GET;
     b[18..26].fill(255);
-    check_eq(place(&b), Some(29)).note("a name of 2^64 - 1 bytes")
+    assert_eq!(rt; place(&b), Some(29), "a name of 2^64 - 1 bytes");
 }
 
 // Entries come in the order of the bytes, the last first.
 #[test]
-fn entries_in_order() -> Result<(), Fail> {
+fn entries_in_order(rt: HostRuntime) -> Result<(), Fail> {
     let b = APPEND_TWO;
     let Event::Comes(_, Message::Append(_, _, _, commit, es)) = read_event(b) else {
         return Err(Fail::new("no append"));
     };
-    check_eq(commit, 3)?;
-    check(es.count == 2)?;
+    assert_eq!(rt; commit, 3);
+    assert!(rt; es.count == 2);
     let (last, rest) = next_entry(b, es);
     let (first, none) = next_entry(b, rest);
-    check_eq(last.index, 3)?;
-    check_eq(first.index, 2)?;
-    check_eq(none.count, 0)
+    assert_eq!(rt; last.index, 3);
+    assert_eq!(rt; first.index, 2);
+    assert_eq!(rt; none.count, 0);
+    Ok(())
 }
 
 // What is written is read.
 #[test]
-fn written_messages_are_read() -> Result<(), Fail> {
+fn written_messages_are_read(rt: HostRuntime) {
     let mut b = [7u8; 27];
     let next = put::write_byte(&mut b, 0, 2);
     let next = put::write_byte(&mut b, next, 1);
     let next = message::write_ask_vote(&mut b, next, 5, 6, 7);
-    check_eq(next, 27)?;
-    check_eq(b, *ASK_VOTE)?;
+    assert_eq!(rt; next, 27);
+    assert_eq!(rt; b, *ASK_VOTE);
     let mut b = [7u8; 12];
     let mut m = [0u8; 10];
     message::write_vote(&mut m, 0, 9, true);
     answer::write_comes(&mut b, 0, 4, &m);
-    check_eq(b, *VOTE)?;
+    assert_eq!(rt; b, *VOTE);
     let mut m = [0u8; 18];
     message::write_appended(&mut m, 0, 9, 8, false);
     let mut b = [7u8; 20];
     answer::write_comes(&mut b, 0, 0, &m);
-    check_eq(b, *APPENDED)?;
+    assert_eq!(rt; b, *APPENDED);
     let mut m = [0u8; 41];
     message::write_append_head(&mut m, 0, 4, 0, 0, 0, 0);
     let mut b = [7u8; 43];
     answer::write_comes(&mut b, 0, 3, &m);
-    check_eq(b, *APPEND_NONE)
+    assert_eq!(rt; b, *APPEND_NONE);
 }

@@ -1,46 +1,43 @@
 -- An answer that was written, with the counts that go with it, means itself.
-use mathlib.Core.Path.{_≡_, refl}
-use mathlib.Core.List.{List, [], _∷_, _++_}
-use Prim.Native.Nat.{ℕ}
-use lib.ListN.{length, drop}
-use Rattle·std.proofs.shelf.Lists.{append-assoc}
-use Rattle·std.proofs.shelf.Tests.{and-parts}
-use Rattle·servers.specs.Server.{Answer, Entry, Message, append, refused, not-leader, does}
-use Rattle·wire.specs.Write.{write-answer, write-entries, write-letters, write-message, write-number, write-saids}
-use Rattle·wire.proofs.Letters.{letters-back, saids-back}
-use Rattle·wire.proofs.Numbers.{number}
-use Rattle·wire_write·specs.Answers.{Written-means, answer-length, answer-of}
-use Rattle·wire_write·specs.Heads.{append-head}
+use Rattle.std.proofs.Common.{◌≡◌, ℕ, List, [], ◌∷◌, ◌++◌, length, drop, refl}
+use Rattle.std.proofs.lemmas.List.{append_assoc}
+use Rattle.std.proofs.lemmas.Bool.{and_parts}
+use Rattle.servers.specs.Server.{Answer, Entry, Message, append, refused, not_leader, does}
+use Rattle.wire.specs.Write.{write_answer, write_entries, write_letters, write_message, write_number, write_saids}
+use Rattle.wire.proofs.Letters.{letters_back, saids_back}
+use Rattle.wire.proofs.Numbers.{number}
+use Rattle.wire_write.specs.Answers.{WrittenMeans, answer_length, answer_of}
+use Rattle.wire_write.specs.Heads.{append_head}
 
 -- what stands after the first count
-after-count : (n : ℕ) (bs : List ℕ) → drop 8 (write-number n ++ bs) ≡ bs
-unfolding write-number
-after-count n bs = refl
+after_count : (n : ℕ) (bs : List ℕ) → drop 8 (write_number n ++ bs) ≡ bs
+unfolding write_number
+after_count n bs = refl
 
-pub written-means : Written-means
-written-means (refused j k) rest f = refl
-written-means not-leader rest f = refl
-written-means (does ss ls) rest f =
-    let p = and-parts _ _ f in
-    let a = and-parts _ _ (p .0) in
-    let b = and-parts _ _ (p .1) in
+pub written_means : WrittenMeans
+written_means (refused j k) rest f = refl
+written_means not_leader rest f = refl
+written_means (does ss ls) rest f =
+    let p = and_parts _ _ f in
+    let a = and_parts _ _ p.0 in
+    let b = and_parts _ _ p.1 in
     rw (
-      append-assoc (write-number (length ss)) (write-saids ss ++ (write-number (length ls) ++ write-letters ls)) rest,
-      after-count (length ss) ((write-saids ss ++ (write-number (length ls) ++ write-letters ls)) ++ rest),
-      append-assoc (write-saids ss) (write-number (length ls) ++ write-letters ls) rest,
-      saids-back ss ((write-number (length ls) ++ write-letters ls) ++ rest) (a .1),
-      append-assoc (write-number (length ls)) (write-letters ls) rest,
-      number .back (length ls) (write-letters ls ++ rest) (b .0),
-      letters-back ls rest (b .1),
+      append_assoc (write_number (length ss)) (write_saids ss ++ (write_number (length ls) ++ write_letters ls)) rest,
+      after_count (length ss) ((write_saids ss ++ (write_number (length ls) ++ write_letters ls)) ++ rest),
+      append_assoc (write_saids ss) (write_number (length ls) ++ write_letters ls) rest,
+      saids_back ss ((write_number (length ls) ++ write_letters ls) ++ rest) a.1,
+      append_assoc (write_number (length ls)) (write_letters ls) rest,
+      number.back (length ls) (write_letters ls ++ rest) b.0,
+      letters_back ls rest b.1,
     )
 
-pub length-answer : (a : Answer) → answer-length (answer-of a) ≡ length (write-answer a)
-unfolding write-number
-length-answer (refused j k) = refl
-length-answer not-leader = refl
-length-answer (does ss ls) = refl
+pub length_answer : (a : Answer) → answer_length (answer_of a) ≡ length (write_answer a)
+unfolding write_number
+length_answer (refused j k) = refl
+length_answer not_leader = refl
+length_answer (does ss ls) = refl
 
 -- an append is its head and its entries
-pub append-parts :
-    (t i u c : ℕ) (es : List Entry) → append-head t i u c (length es) ++ write-entries es ≡ write-message (append t i u es c)
-append-parts t i u c es = simp append-assoc
+pub append_parts :
+    (t i u c : ℕ) (es : List Entry) → append_head t i u c (length es) ++ write_entries es ≡ write_message (append t i u es c)
+append_parts t i u c es = simp append_assoc

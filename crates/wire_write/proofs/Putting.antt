@@ -1,106 +1,101 @@
 -- Bytes written next to each other are one piece, whichever was written first.
-use native.Mathlib.Omega.{arith}
-use mathlib.Core.Path.{_≡_, refl, sym, _∙_, ap, subst}
-use mathlib.Core.List.{List, [], _∷_, _++_}
-use Prim.Native.Nat.{ℕ, suc, _+_, _-_, _≤_, _<_}
-use lib.ListN.{length, take, drop, set}
-use borrow.Rule.Slice.PartMut.{putMid}
-use Rattle·std.proofs.shelf.Lists.{append-assoc, drop-at, drop-drop, length-append, length-drop, length-take-le}
-use Rattle·std.proofs.shelf.Lists.{set-split, take-append-drop, take-append-le, take-at, take-take}
-use Rattle·wire_write·specs.Put.{put-at, Writes}
+use Rattle.std.proofs.Common.{◌≡◌, ℕ, suc, ◌+◌, ◌-◌, ◌<◌, ◌≤◌, List, [], ◌∷◌, ◌++◌, length, take, drop, set, sym, refl, ap, ◌∙◌, subst, arith}
+use borrow.Rule.Slice.PartMut.{put_mid}
+use Rattle.std.proofs.lemmas.List.{append_assoc, drop_at, drop-drop, length-append, length-drop, length-take-le, set_split, take-append-drop, take-append-le, take_at, take-take}
+use Rattle.wire_write.specs.Put.{put_at, Writes}
 
-pub length-put : (at : ℕ) (bs xs : List ℕ) → at + length bs ≤ length xs → length (put-at at bs xs) ≡ length xs
-length-put at bs xs h =
+pub length_put : (at : ℕ) (bs xs : List ℕ) → at + length bs ≤ length xs → length (put_at at bs xs) ≡ length xs
+length_put at bs xs h =
     let a = length-take-le at xs (omega arith) in
     let b = length-drop (at + length bs) xs in
     simp length-append (omega arith)
 
 -- what stands before and after
-pub take-put : (at : ℕ) (bs xs : List ℕ) → at + length bs ≤ length xs → take at (put-at at bs xs) ≡ take at xs
-take-put at bs xs h = take-at (take at xs) (bs ++ drop (at + length bs) xs) at (length-take-le at xs (omega arith))
+pub take_put : (at : ℕ) (bs xs : List ℕ) → at + length bs ≤ length xs → take at (put_at at bs xs) ≡ take at xs
+take_put at bs xs h = take_at (take at xs) (bs ++ drop (at + length bs) xs) at (length-take-le at xs (omega arith))
 
-pub take-put-all : (at : ℕ) (bs xs : List ℕ) → at + length bs ≤ length xs → take (at + length bs) (put-at at bs xs) ≡ take at xs ++ bs
-take-put-all at bs xs h =
+pub take_put_all : (at : ℕ) (bs xs : List ℕ) → at + length bs ≤ length xs → take (at + length bs) (put_at at bs xs) ≡ take at xs ++ bs
+take_put_all at bs xs h =
     let a = length-take-le at xs (omega arith) in
     let l : length (take at xs ++ bs) ≡ at + length bs = simp length-append (omega arith) in
-    rw (← append-assoc (take at xs) bs (drop (at + length bs) xs))
-    (take-at (take at xs ++ bs) (drop (at + length bs) xs) (at + length bs) l)
+    rw (← append_assoc (take at xs) bs (drop (at + length bs) xs))
+    (take_at (take at xs ++ bs) (drop (at + length bs) xs) (at + length bs) l)
 
-pub drop-put :
-    (at k : ℕ) (bs xs : List ℕ) → at + length bs ≤ length xs → drop (at + length bs + k) (put-at at bs xs) ≡ drop (at + length bs + k) xs
-drop-put at k bs xs h =
+pub drop_put :
+    (at k : ℕ) (bs xs : List ℕ) → at + length bs ≤ length xs → drop (at + length bs + k) (put_at at bs xs) ≡ drop (at + length bs + k) xs
+drop_put at k bs xs h =
     let a = length-take-le at xs (omega arith) in
     let n = at + length bs in
     let l : length (take at xs ++ bs) ≡ n = simp length-append (omega arith) in
-    let e = drop-at (take at xs ++ bs) (drop n xs) n l in
-    rw (← append-assoc (take at xs) bs (drop n xs), ← drop-drop k n ((take at xs ++ bs) ++ drop n xs), e) (drop-drop k n xs)
+    let e = drop_at (take at xs ++ bs) (drop n xs) n l in
+    rw (← append_assoc (take at xs) bs (drop n xs), ← drop-drop k n ((take at xs ++ bs) ++ drop n xs), e) (drop-drop k n xs)
 
 -- one piece after the other
-put-then :
-    (at : ℕ) (p q xs : List ℕ) → at + length p + length q ≤ length xs → put-at (at + length p) q (put-at at p xs) ≡ put-at at (p ++ q) xs
-put-then at p q xs h =
-    let a = take-put-all at p xs (omega arith) in
-    let b = drop-put at (length q) p xs (omega arith) in
+put_then :
+    (at : ℕ) (p q xs : List ℕ) → at + length p + length q ≤ length xs → put_at (at + length p) q (put_at at p xs) ≡ put_at at (p ++ q) xs
+put_then at p q xs h =
+    let a = take_put_all at p xs (omega arith) in
+    let b = drop_put at (length q) p xs (omega arith) in
     let l = length-append p q in
     let m : at + length p + length q ≡ at + length (p ++ q) = omega arith in
-    let c = append-assoc (take at xs) p (q ++ drop (at + length p + length q) xs) in
-    rw (a, b, c, append-assoc p q (drop (at + length (p ++ q)) xs), m) refl
+    let c = append_assoc (take at xs) p (q ++ drop (at + length p + length q) xs) in
+    rw (a, b, c, append_assoc p q (drop (at + length (p ++ q)) xs), m) refl
 
-pub writes-then : {at n r : ℕ} {p q xs ys zs : List ℕ} → Writes at p xs ys n → Writes n q ys zs r → Writes at (p ++ q) xs zs r
-writes-then {at = at} {n = n} {r = r} {p = p} {q = q} {xs = xs} {ys = ys} {zs = zs} u v =
+pub writes_then : {at n r : ℕ} {p q xs ys zs : List ℕ} → Writes at p xs ys n → Writes n q ys zs r → Writes at (p ++ q) xs zs r
+writes_then {at = at} {n = n} {r = r} {p = p} {q = q} {xs = xs} {ys = ys} {zs = zs} u v =
     let l = length-append p q in
-    let ly : length ys ≡ length xs = ap length (u .bytes) ∙ length-put at p xs (omega (arith, u .next, u .room)) in
-    let e : n ≡ at + length p = u .next in
-    let f : r ≡ n + length q = v .next in
-    let g : r ≤ length ys = v .room in
-    let t = put-then at p q xs (omega arith) in
+    let ly : length ys ≡ length xs = ap length u.bytes ∙ length_put at p xs (omega (arith, u.next, u.room)) in
+    let e : n ≡ at + length p = u.next in
+    let f : r ≡ n + length q = v.next in
+    let g : r ≤ length ys = v.room in
+    let t = put_then at p q xs (omega arith) in
     record {
-      bytes = v .bytes ∙ (ap (λ k. put-at k q ys) e ∙ (ap (put-at (at + length p) q) (u .bytes) ∙ t));
+      bytes = v.bytes ∙ (ap (λ k. put_at k q ys) e ∙ (ap (put_at (at + length p) q) u.bytes ∙ t));
       next = omega arith;
       room = omega arith;
     }
 
 -- a piece before the one that stands there: a count that is known only after what it counts
-put-before :
-    (at : ℕ) (p q xs : List ℕ) → at + length p + length q ≤ length xs → put-at at p (put-at (at + length p) q xs) ≡ put-at at (p ++ q) xs
-put-before at p q xs h =
+put_before :
+    (at : ℕ) (p q xs : List ℕ) → at + length p + length q ≤ length xs → put_at at p (put_at (at + length p) q xs) ≡ put_at at (p ++ q) xs
+put_before at p q xs h =
     let n = at + length p in
     let a = length-take-le n xs (omega arith) in
-    let t : take at (put-at n q xs) ≡ take at xs =
+    let t : take at (put_at n q xs) ≡ take at xs =
     take-append-le at (take n xs) (q ++ drop (n + length q) xs) (omega arith) ∙ take-take at n xs (omega arith) in
-    let d = drop-at (take n xs) (q ++ drop (n + length q) xs) n a in
+    let d = drop_at (take n xs) (q ++ drop (n + length q) xs) n a in
     let l = length-append p q in
     let m : n + length q ≡ at + length (p ++ q) = omega arith in
-    rw (t, d, append-assoc p q (drop (at + length (p ++ q)) xs), m) refl
+    rw (t, d, append_assoc p q (drop (at + length (p ++ q)) xs), m) refl
 
-pub writes-before : {at n r : ℕ} {p q xs ys zs : List ℕ} → Writes n q xs ys r → Writes at p ys zs n → Writes at (p ++ q) xs zs r
-writes-before {at = at} {n = n} {r = r} {p = p} {q = q} {xs = xs} {ys = ys} {zs = zs} v u =
+pub writes_before : {at n r : ℕ} {p q xs ys zs : List ℕ} → Writes n q xs ys r → Writes at p ys zs n → Writes at (p ++ q) xs zs r
+writes_before {at = at} {n = n} {r = r} {p = p} {q = q} {xs = xs} {ys = ys} {zs = zs} v u =
     let l = length-append p q in
-    let e : n ≡ at + length p = u .next in
-    let f : r ≡ n + length q = v .next in
-    let g : r ≤ length xs = v .room in
-    let t = put-before at p q xs (omega arith) in
-    record { bytes = u .bytes ∙ (ap (put-at at p) (v .bytes ∙ ap (λ k. put-at k q xs) e) ∙ t); next = omega arith; room = omega arith }
+    let e : n ≡ at + length p = u.next in
+    let f : r ≡ n + length q = v.next in
+    let g : r ≤ length xs = v.room in
+    let t = put_before at p q xs (omega arith) in
+    record { bytes = u.bytes ∙ (ap (put_at at p) (v.bytes ∙ ap (λ k. put_at k q xs) e) ∙ t); next = omega arith; room = omega arith }
 
 -- nothing is written
-pub writes-none : (at : ℕ) (xs : List ℕ) → at ≤ length xs → Writes at [] xs xs at
-writes-none at xs h =
+pub writes_none : (at : ℕ) (xs : List ℕ) → at ≤ length xs → Writes at [] xs xs at
+writes_none at xs h =
     let z : at + 0 ≡ at = omega arith in
     record { bytes = sym (rw z (take-append-drop at xs)); next = omega arith; room = h }
 
 -- one byte, and a part that was written over
-pub writes-byte : (at x : ℕ) (xs : List ℕ) → at + 1 ≤ length xs → Writes at (x ∷ []) xs (set xs at x) (at + 1)
-writes-byte at x xs h =
+pub writes_byte : (at x : ℕ) (xs : List ℕ) → at + 1 ≤ length xs → Writes at (x ∷ []) xs (set xs at x) (at + 1)
+writes_byte at x xs h =
     let s : at + 1 ≡ suc at = omega arith in
-    record { bytes = set-split xs at x (omega arith) ∙ rw s refl; next = refl; room = h }
+    record { bytes = set_split xs at x (omega arith) ∙ rw s refl; next = refl; room = h }
 
-pub writes-part :
+pub writes_part :
     (at n : ℕ) (bs xs ys : List ℕ) → ys ≡ bs → length bs ≡ n → at + n ≤ length xs
-    → Writes at bs xs (putMid at ((at + n) - at) xs ys) (at + n)
-writes-part at n bs xs ys e l h =
+    → Writes at bs xs (put_mid at ((at + n) - at) xs ys) (at + n)
+writes_part at n bs xs ys e l h =
     let m : (at + n) - at ≡ n = omega arith in
     record { bytes = rw (e, m, l, ← drop-drop n at xs) refl; next = omega arith; room = h }
 
 -- the same bytes in other words
-pub writes-as : {at r : ℕ} {p q xs ys : List ℕ} → p ≡ q → Writes at p xs ys r → Writes at q xs ys r
-writes-as {at = at} {r = r} {xs = xs} {ys = ys} e w = let P : List ℕ → Type 0 = λ z. Writes at z xs ys r in subst P e w
+pub writes_as : {at r : ℕ} {p q xs ys : List ℕ} → p ≡ q → Writes at p xs ys r → Writes at q xs ys r
+writes_as {at = at} {r = r} {xs = xs} {ys = ys} e w = let P : List ℕ → Type 0 = λ z. Writes at z xs ys r in subst P e w

@@ -1,21 +1,20 @@
 -- What stands before the parts that others write: an append before its entries, a letter before its message, an answer before
 -- what it tells, an event before a message. Assumes nothing: these are definitions.
-use mathlib.Core.List.{List, [], _∷_, _++_}
-use Prim.Native.Nat.{ℕ}
-use Rattle·wire.specs.Write.{write-number}
+use Rattle.std.specs.Prelude.{ℕ, List, [], ◌∷◌, ◌++◌}
+use Rattle.wire.specs.Write.{write_number}
 
 -- term, the index and term before, how far it is committed, how many entries
-abbrev pub append-head : ℕ → ℕ → ℕ → ℕ → ℕ → List ℕ
-append-head t i u c n = 2 ∷ (write-number t ++ (write-number i ++ (write-number u ++ (write-number c ++ write-number n))))
+abbrev pub append_head : ℕ → ℕ → ℕ → ℕ → ℕ → List ℕ
+append_head t i u c n = 2 ∷ (write_number t ++ (write_number i ++ (write_number u ++ (write_number c ++ write_number n))))
 
 -- to which server, and how many bytes its message has
-abbrev pub letter-head : ℕ → ℕ → List ℕ
-letter-head to n = to ∷ write-number n
+abbrev pub letter_head : ℕ → ℕ → List ℕ
+letter_head to n = to ∷ write_number n
 
 -- how many are told
-abbrev pub does-head : ℕ → List ℕ
-does-head n = 2 ∷ write-number n
+abbrev pub does_head : ℕ → List ℕ
+does_head n = 2 ∷ write_number n
 
 -- from which server
-abbrev pub comes-head : ℕ → List ℕ
-comes-head h = 2 ∷ (h ∷ [])
+abbrev pub comes_head : ℕ → List ℕ
+comes_head h = 2 ∷ (h ∷ [])

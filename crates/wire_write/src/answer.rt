@@ -1,16 +1,12 @@
 // Answers: the enum that a call returns, and the writers of what stands before the parts of an answer's bytes.
-ghost use lib.ListN.{length};
-ghost use mathlib.Core.List.{_++_};
-ghost use mathlib.Core.Path.{_≡_};
-ghost use Prim.Native.Nat.{_+_, _≤_};
-ghost use Rattle·servers.specs.Server.{not-leader, refused};
-ghost use Rattle·wire.specs.Write.{write-answer};
-ghost use Rattle·wire_write·specs.Answers.{answer-length};
-ghost use Rattle·wire_write·specs.Heads.{comes-head, does-head, letter-head};
-ghost use Rattle·wire_write·specs.Put.{Writes};
-use crate::put::write_byte;
-use crate::put::write_bytes;
-use crate::put::write_number;
+ghost use Rattle.std.specs.Prelude.{◌≡◌, ◌+◌, ◌≤◌, ◌++◌, length};
+ghost use Rattle.servers.specs.Server.{not_leader, refused};
+ghost use Rattle.wire.specs.Write.{write_answer};
+ghost use Rattle.wire_write.specs.Answers.{answer_length};
+ghost use Rattle.wire_write.specs.Heads.{comes_head, does_head, letter_head};
+ghost use Rattle.wire_write.specs.Put.{Writes};
+
+use crate::put::{write_byte, write_bytes, write_number};
 
 #[derive(Clone, Copy)]
 pub enum Answer {
@@ -23,7 +19,7 @@ pub enum Answer {
 
 // How many bytes an answer has.
 pub fn answer_len(answer: Answer) -> usize
-    ensures { λ r. ⌜ r ≡ answer-length answer ⌝ }
+    ensures { result ≡ answer_length answer }
 {
     match answer {
         Answer::Refused(..) => 10,
@@ -33,9 +29,9 @@ pub fn answer_len(answer: Answer) -> usize
 }
 
 pub fn write_refused(out: &mut [u8], at: usize, refusal: u8, place: u64) -> usize
-    requires { ⌜ at + 10 ≤ length (now out) ⌝ }
-    ensures bytes { λ r. ⌜ Writes at (write-answer (refused refusal place)) (now (out .entry)) (now (out .exit)) r ⌝ }
-    ensures next { λ r. ⌜ r ≡ at + 10 ⌝ }
+    requires { at + 10 ≤ length out.old }
+    ensures bytes { Writes at (write_answer (refused refusal place)) out.old out.new result }
+    ensures next { result ≡ at + 10 }
 {
     let n0 = write_byte(out, at, 0);
     let n1 = write_byte(out, n0, refusal);
@@ -43,18 +39,18 @@ pub fn write_refused(out: &mut [u8], at: usize, refusal: u8, place: u64) -> usiz
 }
 
 pub fn write_not_leader(out: &mut [u8], at: usize) -> usize
-    requires { ⌜ at + 1 ≤ length (now out) ⌝ }
-    ensures bytes { λ r. ⌜ Writes at (write-answer not-leader) (now (out .entry)) (now (out .exit)) r ⌝ }
-    ensures next { λ r. ⌜ r ≡ at + 1 ⌝ }
+    requires { at + 1 ≤ length out.old }
+    ensures bytes { Writes at (write_answer not_leader) out.old out.new result }
+    ensures next { result ≡ at + 1 }
 {
     write_byte(out, at, 1)
 }
 
 // How many are told. What is told may be there already: the count is known last.
 pub fn write_does_head(out: &mut [u8], at: usize, told: u64) -> usize
-    requires { ⌜ at + 9 ≤ length (now out) ⌝ }
-    ensures bytes { λ r. ⌜ Writes at (does-head told) (now (out .entry)) (now (out .exit)) r ⌝ }
-    ensures next { λ r. ⌜ r ≡ at + 9 ⌝ }
+    requires { at + 9 ≤ length out.old }
+    ensures bytes { Writes at (does_head told) out.old out.new result }
+    ensures next { result ≡ at + 9 }
 {
     let n0 = write_byte(out, at, 2);
     write_number(out, n0, told)
@@ -62,9 +58,9 @@ pub fn write_does_head(out: &mut [u8], at: usize, told: u64) -> usize
 
 // A letter up to its message: to which server, and how many bytes the message has.
 pub fn write_letter_head(out: &mut [u8], at: usize, to: u8, len: u64) -> usize
-    requires { ⌜ at + 9 ≤ length (now out) ⌝ }
-    ensures bytes { λ r. ⌜ Writes at (letter-head to len) (now (out .entry)) (now (out .exit)) r ⌝ }
-    ensures next { λ r. ⌜ r ≡ at + 9 ⌝ }
+    requires { at + 9 ≤ length out.old }
+    ensures bytes { Writes at (letter_head to len) out.old out.new result }
+    ensures next { result ≡ at + 9 }
 {
     let n0 = write_byte(out, at, to);
     write_number(out, n0, len)
@@ -72,9 +68,9 @@ pub fn write_letter_head(out: &mut [u8], at: usize, to: u8, len: u64) -> usize
 
 // The event of a message, from the bytes that a letter has of it.
 pub fn write_comes(out: &mut [u8], at: usize, from: u8, message: &[u8]) -> usize
-    requires { ⌜ at + 2 + length (now message) ≤ length (now out) ⌝ }
-    ensures bytes { λ r. ⌜ Writes at (comes-head from ++ now (message .entry)) (now (out .entry)) (now (out .exit)) r ⌝ }
-    ensures next { λ r. ⌜ r ≡ at + 2 + length (now (message .entry)) ⌝ }
+    requires { at + 2 + length message.now ≤ length out.old }
+    ensures bytes { Writes at (comes_head from ++ message.now) out.old out.new result }
+    ensures next { result ≡ at + 2 + length message.now }
 {
     let n0 = write_byte(out, at, 2);
     let n1 = write_byte(out, n0, from);

@@ -1,19 +1,16 @@
 // Writers of messages. The entries of an append are written after its head by whoever has them.
-ghost use lib.ListN.{length};
-ghost use mathlib.Core.Path.{_≡_};
-ghost use Prim.Native.Nat.{_+_, _≤_};
-ghost use Rattle·servers.specs.Server.{appended, ask-vote, vote};
-ghost use Rattle·wire.specs.Write.{write-message};
-ghost use Rattle·wire_write·specs.Heads.{append-head};
-ghost use Rattle·wire_write·specs.Put.{Writes};
-use crate::put::write_bool;
-use crate::put::write_byte;
-use crate::put::write_number;
+ghost use Rattle.std.specs.Prelude.{◌≡◌, ◌+◌, ◌≤◌, length};
+ghost use Rattle.servers.specs.Server.{appended, ask_vote, vote};
+ghost use Rattle.wire.specs.Write.{write_message};
+ghost use Rattle.wire_write.specs.Heads.{append_head};
+ghost use Rattle.wire_write.specs.Put.{Writes};
+
+use crate::put::{write_bool, write_byte, write_number};
 
 pub fn write_ask_vote(out: &mut [u8], at: usize, term: u64, index: u64, last_term: u64) -> usize
-    requires { ⌜ at + 25 ≤ length (now out) ⌝ }
-    ensures bytes { λ r. ⌜ Writes at (write-message (ask-vote term index «last_term»)) (now (out .entry)) (now (out .exit)) r ⌝ }
-    ensures next { λ r. ⌜ r ≡ at + 25 ⌝ }
+    requires { at + 25 ≤ length out.old }
+    ensures bytes { Writes at (write_message (ask_vote term index last_term)) out.old out.new result }
+    ensures next { result ≡ at + 25 }
 {
     let n0 = write_byte(out, at, 0);
     let n1 = write_number(out, n0, term);
@@ -22,9 +19,9 @@ pub fn write_ask_vote(out: &mut [u8], at: usize, term: u64, index: u64, last_ter
 }
 
 pub fn write_vote(out: &mut [u8], at: usize, term: u64, granted: bool) -> usize
-    requires { ⌜ at + 10 ≤ length (now out) ⌝ }
-    ensures bytes { λ r. ⌜ Writes at (write-message (vote term granted)) (now (out .entry)) (now (out .exit)) r ⌝ }
-    ensures next { λ r. ⌜ r ≡ at + 10 ⌝ }
+    requires { at + 10 ≤ length out.old }
+    ensures bytes { Writes at (write_message (vote term granted)) out.old out.new result }
+    ensures next { result ≡ at + 10 }
 {
     let n0 = write_byte(out, at, 1);
     let n1 = write_number(out, n0, term);
@@ -41,9 +38,9 @@ pub fn write_append_head(
     commit: u64,
     count: u64,
 ) -> usize
-    requires { ⌜ at + 41 ≤ length (now out) ⌝ }
-    ensures bytes { λ r. ⌜ Writes at (append-head term before «before_term» commit count) (now (out .entry)) (now (out .exit)) r ⌝ }
-    ensures next { λ r. ⌜ r ≡ at + 41 ⌝ }
+    requires { at + 41 ≤ length out.old }
+    ensures bytes { Writes at (append_head term before before_term commit count) out.old out.new result }
+    ensures next { result ≡ at + 41 }
 {
     let n0 = write_byte(out, at, 2);
     let n1 = write_number(out, n0, term);
@@ -54,9 +51,9 @@ pub fn write_append_head(
 }
 
 pub fn write_appended(out: &mut [u8], at: usize, term: u64, index: u64, ok: bool) -> usize
-    requires { ⌜ at + 18 ≤ length (now out) ⌝ }
-    ensures bytes { λ r. ⌜ Writes at (write-message (appended term index ok)) (now (out .entry)) (now (out .exit)) r ⌝ }
-    ensures next { λ r. ⌜ r ≡ at + 18 ⌝ }
+    requires { at + 18 ≤ length out.old }
+    ensures bytes { Writes at (write_message (appended term index ok)) out.old out.new result }
+    ensures next { result ≡ at + 18 }
 {
     let n0 = write_byte(out, at, 3);
     let n1 = write_number(out, n0, term);

@@ -1,9 +1,9 @@
 // What is promised of written answers, as a contract: its proof is the theorem's.
-ghost use Rattle·wire_write·specs.Answers.{Written-means};
+ghost use Rattle.wire_write.specs.Answers.{WrittenMeans};
 
 // An answer that was written means itself.
 pub fn written_answers_stand() -> u8
-    ensures { λ _. ⌜ Written-means ⌝ }
+    ensures { WrittenMeans }
 {
     0
 }

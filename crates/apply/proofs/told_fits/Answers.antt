@@ -1,5 +1,5 @@
-use Rattle·apply·proofs.Sizes.{told-fits}
-use Rattle·apply·proofs.told_fits.Needs as need
+use Rattle.apply.proofs.Sizes.{told_fits}
+use Rattle.apply.proofs.told_fits.Goals as goal
 
-pub returns : need.returns
-returns c = told-fits
+pub returns : goal.returns
+returns c = told_fits

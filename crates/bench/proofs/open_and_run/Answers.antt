@@ -1,13 +1,13 @@
-use native.Mathlib.Omega.{arith}
-use Rattle·bench·proofs.Standing.{stand-new}
-use Rattle·bench·proofs.open_and_run.Needs as need
+use Rattle.std.proofs.Common.{arith}
+use Rattle.bench.proofs.Standing.{stand_new}
+use Rattle.bench.proofs.open_and_run.Goals as goal
 
-pub run-requires : need.run-requires
-run-requires c κs =
-    let some = c .pre .sized .good .0 in
+pub run-requires : goal.run-requires
+run-requires c =
+    let some = c.requires.sized.good.0 in
     record {
-      stand = stand-new (c .args .g) (c .open-group .result) (c .open-group .last .mems) (c .open-group .ensures .playing);
+      stand = stand_new c.args.g c.open_group.result c.open_group.new.mems c.open_group.ensures.playing;
       servers = omega arith;
-      names = c .pre .names;
-      flight = c .pre .flight;
+      names = c.requires.names;
+      flight = c.requires.flight;
     }

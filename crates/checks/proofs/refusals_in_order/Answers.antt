@@ -1,5 +1,5 @@
-use Rattle·checks·proofs.Laws.{refusals-in-order}
-use Rattle·checks·proofs.refusals_in_order.Needs as need
+use Rattle.checks.proofs.Laws.{refusals_in_order}
+use Rattle.checks.proofs.refusals_in_order.Goals as goal
 
-pub returns : need.returns
-returns c = refusals-in-order
+pub returns : goal.returns
+returns c = refusals_in_order

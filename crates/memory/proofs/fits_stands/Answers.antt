@@ -1,6 +1,6 @@
 -- The proof goes by events.
-use Rattle·memory·proofs.fits_stands.Needs as need
-use Rattle·memory·proofs.Events.{fits-after}
+use Rattle.memory.proofs.fits_stands.Goals as goal
+use Rattle.memory.proofs.Events.{fits_after}
 
-pub returns : need.returns
-returns c = fits-after
+pub returns : goal.returns
+returns c = fits_after

@@ -1,6 +1,6 @@
 -- The proof is that of the program.
-use Rattle·memory·proofs.memory_stands.Needs as need
-use Rattle·memory·proofs.Program.{enough-memory}
+use Rattle.memory.proofs.memory_stands.Goals as goal
+use Rattle.memory.proofs.Program.{enough_memory}
 
-pub returns : need.returns
-returns c = enough-memory
+pub returns : goal.returns
+returns c = enough_memory

@@ -1,6 +1,6 @@
 -- The proof is that of the program.
-use Rattle·memory·proofs.refusal_stands.Needs as need
-use Rattle·memory·proofs.Program.{refusal-keeps}
+use Rattle.memory.proofs.refusal_stands.Goals as goal
+use Rattle.memory.proofs.Program.{refusal_keeps}
 
-pub returns : need.returns
-returns c = refusal-keeps
+pub returns : goal.returns
+returns c = refusal_keeps

@@ -1,6 +1,6 @@
 -- The proof is that of the program.
-use Rattle·memory·proofs.right_stands.Needs as need
-use Rattle·memory·proofs.Program.{right}
+use Rattle.memory.proofs.right_stands.Goals as goal
+use Rattle.memory.proofs.Program.{right}
 
-pub returns : need.returns
+pub returns : goal.returns
 returns c = right

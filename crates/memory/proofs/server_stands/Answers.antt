@@ -1,7 +1,7 @@
 -- One of the choices of events.
-use Rattle·memory·specs.Program.{serves}
-use Rattle·memory·proofs.server_stands.Needs as need
-use Rattle·memory·proofs.Program.{right, refusal-keeps, enough-memory}
+use Rattle.memory.specs.Program.{serves}
+use Rattle.memory.proofs.server_stands.Goals as goal
+use Rattle.memory.proofs.Program.{right, refusal_keeps, enough_memory}
 
-pub returns : need.returns
-returns c = record { right = right serves; keeps = refusal-keeps serves; enough = enough-memory serves }
+pub returns : goal.returns
+returns c = record { right = right serves; keeps = refusal_keeps serves; enough = enough_memory serves }

@@ -1,6 +1,6 @@
-use borrow.Author.Needs.{needs}
-use Rattle·one_order·proofs.applied_stays.Needs as need
-use Rattle·one_order·proofs.Promises.{what-is-applied-stays, what-is-applied-agrees}
+use Rattle.std.proofs.Common.{rules}
+use Rattle.one_order.proofs.applied_stays.Goals as goal
+use Rattle.one_order.proofs.Promises.{what_is_applied_stays, what_is_applied_agrees}
 
-pub returns : need.returns
-returns c = record { stays = what-is-applied-stays; agrees = what-is-applied-agrees }
+pub returns : goal.returns
+returns c = record { stays = what_is_applied_stays; agrees = what_is_applied_agrees }

@@ -1,6 +1,6 @@
-use borrow.Author.Needs.{needs}
-use Rattle·one_order·proofs.at_most_once.Needs as need
-use Rattle·one_order·proofs.Promises.{at-most-once, numbers-rise}
+use Rattle.std.proofs.Common.{rules}
+use Rattle.one_order.proofs.at_most_once.Goals as goal
+use Rattle.one_order.proofs.Promises.{at_most_once, numbers_rise}
 
-pub returns : need.returns
-returns c = record { once = at-most-once; rising = numbers-rise }
+pub returns : goal.returns
+returns c = record { once = at_most_once; rising = numbers_rise }

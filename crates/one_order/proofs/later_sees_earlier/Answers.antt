@@ -1,6 +1,6 @@
-use borrow.Author.Needs.{needs}
-use Rattle·one_order·proofs.later_sees_earlier.Needs as need
-use Rattle·one_order·proofs.Promises.{later-sees-earlier}
+use Rattle.std.proofs.Common.{rules}
+use Rattle.one_order.proofs.later_sees_earlier.Goals as goal
+use Rattle.one_order.proofs.Promises.{later_sees_earlier}
 
-pub returns : need.returns
-returns c = later-sees-earlier
+pub returns : goal.returns
+returns c = later_sees_earlier

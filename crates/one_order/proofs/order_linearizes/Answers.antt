@@ -1,6 +1,6 @@
-use borrow.Author.Needs.{needs}
-use Rattle·one_order·proofs.order_linearizes.Needs as need
-use Rattle·one_order·proofs.Promises.{order-linearizes}
+use Rattle.std.proofs.Common.{rules}
+use Rattle.one_order.proofs.order_linearizes.Goals as goal
+use Rattle.one_order.proofs.Promises.{order_linearizes}
 
-pub returns : need.returns
-returns c = order-linearizes
+pub returns : goal.returns
+returns c = order_linearizes

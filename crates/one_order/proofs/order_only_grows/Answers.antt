@@ -1,6 +1,6 @@
-use borrow.Author.Needs.{needs}
-use Rattle·one_order·proofs.order_only_grows.Needs as need
-use Rattle·one_order·proofs.Promises.{order-only-grows}
+use Rattle.std.proofs.Common.{rules}
+use Rattle.one_order.proofs.order_only_grows.Goals as goal
+use Rattle.one_order.proofs.Promises.{order_only_grows}
 
-pub returns : need.returns
-returns c = order-only-grows
+pub returns : goal.returns
+returns c = order_only_grows

@@ -1,6 +1,6 @@
-use borrow.Author.Needs.{needs}
-use Rattle·one_order·proofs.right_is_linearizable.Needs as need
-use Rattle·one_order·proofs.Promises.{right-is-linearizable}
+use Rattle.std.proofs.Common.{rules}
+use Rattle.one_order.proofs.right_is_linearizable.Goals as goal
+use Rattle.one_order.proofs.Promises.{right_is_linearizable}
 
-pub returns : need.returns
-returns c = right-is-linearizable
+pub returns : goal.returns
+returns c = right_is_linearizable

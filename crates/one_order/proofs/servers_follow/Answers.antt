@@ -1,6 +1,6 @@
-use borrow.Author.Needs.{needs}
-use Rattle·one_order·proofs.servers_follow.Needs as need
-use Rattle·one_order·proofs.Promises.{servers-follow}
+use Rattle.std.proofs.Common.{rules}
+use Rattle.one_order.proofs.servers_follow.Goals as goal
+use Rattle.one_order.proofs.Promises.{servers_follow}
 
-pub returns : need.returns
-returns c = servers-follow
+pub returns : goal.returns
+returns c = servers_follow

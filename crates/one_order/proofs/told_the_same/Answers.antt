@@ -1,6 +1,6 @@
-use borrow.Author.Needs.{needs}
-use Rattle·one_order·proofs.told_the_same.Needs as need
-use Rattle·one_order·proofs.Promises.{told-the-same, told-the-same-always}
+use Rattle.std.proofs.Common.{rules}
+use Rattle.one_order.proofs.told_the_same.Goals as goal
+use Rattle.one_order.proofs.Promises.{told_the_same, told_the_same_always}
 
-pub returns : need.returns
-returns c = record { given = told-the-same; always = told-the-same-always }
+pub returns : goal.returns
+returns c = record { given = told_the_same; always = told_the_same_always }

@@ -1,6 +1,6 @@
-use borrow.Author.Needs.{needs}
-use Rattle·one_order·proofs.told_was_asked.Needs as need
-use Rattle·one_order·proofs.Promises.{entries-were-asked, told-was-asked, told-is-applied}
+use Rattle.std.proofs.Common.{rules}
+use Rattle.one_order.proofs.told_was_asked.Goals as goal
+use Rattle.one_order.proofs.Promises.{entries_were_asked, told_was_asked, told_is_applied}
 
-pub returns : need.returns
-returns c = record { entries = entries-were-asked; asked = told-was-asked; applied = told-is-applied }
+pub returns : goal.returns
+returns c = record { entries = entries_were_asked; asked = told_was_asked; applied = told_is_applied }

@@ -1,6 +1,6 @@
-use borrow.Author.Needs.{needs}
-use Rattle·safety·proofs.refusal_keeps.Needs as need
-use Rattle·safety·proofs.Promises.{turned-away}
+use Rattle.std.proofs.Common.{rules}
+use Rattle.safety.proofs.refusal_keeps.Goals as goal
+use Rattle.safety.proofs.Promises.{turned_away}
 
-pub returns : need.returns
-returns c = turned-away
+pub returns : goal.returns
+returns c = turned_away

@@ -1,5 +1,5 @@
-use Rattle·state·proofs.always_held.Needs as need
-use Rattle·state·proofs.Holding.{always-held}
+use Rattle.state.proofs.always_held.Goals as goal
+use Rattle.state.proofs.Holding.{always_held}
 
-pub returns : need.returns
-returns c = always-held
+pub returns : goal.returns
+returns c = always_held

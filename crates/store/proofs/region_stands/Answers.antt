@@ -1,5 +1,5 @@
-use Rattle·store·proofs.Regions.{region-laws}
-use Rattle·store·proofs.region_stands.Needs as need
+use Rattle.store.proofs.Regions.{region_laws}
+use Rattle.store.proofs.region_stands.Goals as goal
 
-pub returns : need.returns
-returns c = region-laws
+pub returns : goal.returns
+returns c = region_laws

@@ -1,5 +1,5 @@
-use Rattle·texts·proofs.Order.{words-order, words-same, perhaps-same}
-use Rattle·texts·proofs.order_stands.Needs as need
+use Rattle.texts.proofs.Order.{words_order, words_same, perhaps_same}
+use Rattle.texts.proofs.order_stands.Goals as goal
 
-pub returns : need.returns
-returns c = record { less = words-order; same = words-same; perhaps = perhaps-same }
+pub returns : goal.returns
+returns c = record { less = words_order; same = words_same; perhaps = perhaps_same }

@@ -1,5 +1,5 @@
-use Rattle·texts·proofs.Cells.{text-back, perhaps-back, text-fits}
-use Rattle·texts·proofs.round_trip_stands.Needs as need
+use Rattle.texts.proofs.Cells.{text_back, perhaps_back, text_fits}
+use Rattle.texts.proofs.round_trip_stands.Goals as goal
 
-pub returns : need.returns
-returns c = record { text = text-back; perhaps = perhaps-back; fits = text-fits }
+pub returns : goal.returns
+returns c = record { text = text_back; perhaps = perhaps_back; fits = text_fits }

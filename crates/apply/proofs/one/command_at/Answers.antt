@@ -1,16 +1,13 @@
-use mathlib.Core.Path.{ap, _∙_}
-use mathlib.Core.List.{List}
-use Prim.Native.Nat.{ℕ}
-use lib.ListN.{drop}
-use Rattle·store.proofs.CommandParts.{command-long}
-use Rattle·log.specs.Places.{row-at}
-use Rattle·apply·proofs.Doing.{command-held}
-use Rattle·apply·proofs.one.command_at.Needs as need
+use Rattle.std.proofs.Common.{ℕ, List, drop, ap, ◌∙◌}
+use Rattle.store.proofs.CommandParts.{command_long}
+use Rattle.raft_log.specs.Places.{row_at}
+use Rattle.apply.proofs.Doing.{command_held}
+use Rattle.apply.proofs.one.command_at.Goals as goal
 
-pub returns : need.returns
+pub returns : goal.returns
 returns c =
-    let i : ℕ = c .args .index in
-    let ws : List ℕ = c .command-at .result .now in
-    let e = c .command-at .ensures ∙ ap (λ (z : List ℕ). drop 4 (row-at i z)) (c .log-part .ensures .rows) in
-    let x = command-held (c .args .mem .now) ws i (c .pre .held) (c .pre .some) (c .pre .there) e in
-    record { command = x .0; long = command-long ws (x .0); value = x .1 }
+    let i : ℕ = c.args.index in
+    let ws : List ℕ = c.command_at.result.now in
+    let e = c.command_at.ensures ∙ ap (λ (z : List ℕ). drop 4 (row_at i z)) c.log_part.ensures.rows in
+    let x = command_held c.args.mem.now ws i c.requires.held c.requires.some c.requires.there e in
+    record { command = x.0; long = command_long ws x.0; value = x.1 }

@@ -1,16 +1,14 @@
-use mathlib.Core.Path.{ap, _∙_}
-use mathlib.Core.List.{List}
-use Prim.Native.Nat.{ℕ}
-use Rattle·log.specs.Places.{entry-in}
-use Rattle·log.specs.Numbers.{numbers-of}
-use Rattle·apply·proofs.Doing.{client-held}
-use Rattle·apply·proofs.one.numbers_at.Needs as need
+use Rattle.std.proofs.Common.{ℕ, List, ap, ◌∙◌}
+use Rattle.raft_log.specs.Places.{entry_in}
+use Rattle.raft_log.specs.Numbers.{numbers_of}
+use Rattle.apply.proofs.Doing.{client_held}
+use Rattle.apply.proofs.one.numbers_at.Goals as goal
 
-pub returns : need.returns
+pub returns : goal.returns
 returns c =
     record {
-      value = c .numbers-at .ensures
-          ∙ ap (λ (z : List ℕ). numbers-of (entry-in (c .args .index) z)) (c .log-part .ensures .rows);
-      client = client-held (c .args .mem .now) (c .log-part .result .now) (c .args .index) (c .numbers-at .result) (c .pre .held)
-          (c .pre .some) (c .pre .there) (c .log-part .ensures .rows) (c .numbers-at .ensures);
+      value = c.numbers_at.ensures
+          ∙ ap (λ (z : List ℕ). numbers_of (entry_in c.args.index z)) c.log_part.ensures.rows;
+      client = client_held c.args.mem.now c.log_part.result.now c.args.index c.numbers_at.result c.requires.held
+          c.requires.some c.requires.there c.log_part.ensures.rows c.numbers_at.ensures;
     }

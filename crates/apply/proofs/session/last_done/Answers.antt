@@ -1,23 +1,21 @@
-use native.Mathlib.Omega.{arith}
-use mathlib.Core.Path.{ap, _∙_}
-use lib.ListN.{length}
-use Rattle·memory.proofs.Parts.{length-cached}
-use Rattle·state.specs.Held.{state-of}
-use Rattle·apply·specs.Applied.{session}
-use Rattle·apply·proofs.Sessions.{last-words}
-use Rattle·apply·proofs.session.last_done.Needs as need
+use Rattle.std.proofs.Common.{length, ap, ◌∙◌, arith}
+use Rattle.memory.proofs.Parts.{length_cached}
+use Rattle.state.specs.Held.{state_of}
+use Rattle.apply.specs.Applied.{session}
+use Rattle.apply.proofs.Sessions.{last_words}
+use Rattle.apply.proofs.session.last_done.Goals as goal
 
-pub index-kept-0 : need.index-kept-0
-index-kept-0 c =
-    let l = ap length (c .session-part-kept .ensures) ∙ length-cached (session (state-of (c .args .mem .now)) (c .args .client)) in
+pub bounds-kept-0 : goal.bounds-kept-0
+bounds-kept-0 c =
+    let l = ap length c.session_part-kept.ensures ∙ length_cached (session (state_of c.args.mem.now) c.args.client) in
     omega arith
 
-pub index-kept-1 : need.index-kept-1
-index-kept-1 c =
-    let l = ap length (c .session-part-kept .ensures) ∙ length-cached (session (state-of (c .args .mem .now)) (c .args .client)) in
+pub bounds-kept-1 : goal.bounds-kept-1
+bounds-kept-1 c =
+    let l = ap length c.session_part-kept.ensures ∙ length_cached (session (state_of c.args.mem.now) c.args.client) in
     omega arith
 
-pub returns : need.returns
+pub returns : goal.returns
 returns c =
-    last-words (session (state-of (c .args .mem .now)) (c .args .client)) (c .session-part-kept .result .now)
-    (c .session-part-kept .ensures)
+    last_words (session (state_of c.args.mem.now) c.args.client) c.session_part-kept.result.now
+    c.session_part-kept.ensures

@@ -1,33 +1,30 @@
-use mathlib.Core.Path.{sym, ap, subst, _∙_}
-use mathlib.Core.List.{List}
-use Prim.Native.Nat.{ℕ, _+_, _≤_}
-use lib.ListN.{length, getD}
-use Rattle·servers.specs.Server.{Cached}
-use Rattle·wire.specs.Write.{write-said}
-use Rattle·wire_write.proofs.Putting.{writes-as}
-use Rattle·memory.specs.Words.{cached-in}
-use Rattle·memory.proofs.Parts.{length-cached}
-use Rattle·state.specs.Held.{state-of}
-use Rattle·apply·specs.Applied.{session, kept-for}
-use Rattle·apply·proofs.Sessions.{session-good, session-back, now-low, old-low}
-use Rattle·apply·proofs.tell.tell.Needs as need
+use Rattle.std.proofs.Common.{ℕ, ◌+◌, ◌≤◌, List, length, get_or, sym, ap, ◌∙◌, subst}
+use Rattle.servers.specs.Server.{Cached}
+use Rattle.wire.specs.Write.{write_said}
+use Rattle.wire_write.proofs.Putting.{writes_as}
+use Rattle.memory.specs.Words.{cached_in}
+use Rattle.memory.proofs.Parts.{length_cached}
+use Rattle.state.specs.Held.{state_of}
+use Rattle.apply.specs.Applied.{session, kept_for}
+use Rattle.apply.proofs.Sessions.{session_good, session_back, now_low, old_low}
+use Rattle.apply.proofs.tell.tell.Goals as goal
 
-pub write-session-requires : need.write-session-requires
-write-session-requires c κs =
-    let x : Cached = session (state-of (c .args .mem .now)) (c .args .client) in
-    let g = session-good (c .args .mem .now) (c .args .client) (c .pre .held) in
-    let e = c .session-part .ensures in
+pub write_session-requires : goal.write_session-requires
+write_session-requires c =
+    let x : Cached = session (state_of c.args.mem.now) c.args.client in
+    let g = session_good c.args.mem.now c.args.client c.requires.held in
+    let e = c.session_part.ensures in
     record {
-      size = ap length e ∙ length-cached x;
-      after = subst (λ (z : List ℕ). getD z 2 0 ≤ 257) (sym e) (now-low x g);
-      before = subst (λ (z : List ℕ). getD z 35 0 ≤ 257) (sym e) (old-low x g);
-      room = subst (λ (y : Cached). c .args .at + length (write-said (kept-for (c .args .client) y)) ≤ length (c .args .out .now))
-          (sym (ap cached-in e ∙ session-back x g)) (c .pre .room);
+      size = ap length e ∙ length_cached x;
+      after = subst (λ (z : List ℕ). get_or z 2 0 ≤ 257) (sym e) (now_low x g);
+      before = subst (λ (z : List ℕ). get_or z 35 0 ≤ 257) (sym e) (old_low x g);
+      room = subst (λ (y : Cached). c.args.at + length (write_said (kept_for c.args.client y)) ≤ length c.args.out.now)
+          (sym (ap cached_in e ∙ session_back x g)) c.requires.room;
     }
 
-pub returns : need.returns
+pub returns : goal.returns
 returns c =
-    let x : Cached = session (state-of (c .args .mem .now)) (c .args .client) in
-    let g = session-good (c .args .mem .now) (c .args .client) (c .pre .held) in
-    writes-as (ap (λ (y : Cached). write-said (kept-for (c .args .client) y)) (ap cached-in (c .session-part .ensures) ∙ session-back x g))
-    (c .write-session .ensures)
+    let x : Cached = session (state_of c.args.mem.now) c.args.client in
+    let g = session_good c.args.mem.now c.args.client c.requires.held in
+    writes_as (ap (λ (y : Cached). write_said (kept_for c.args.client y)) (ap cached_in c.session_part.ensures ∙ session_back x g))
+    c.write_session.ensures

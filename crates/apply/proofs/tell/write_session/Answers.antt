@@ -1,72 +1,69 @@
-use native.Mathlib.Omega.{arith}
-use mathlib.Core.List.{List, _++_}
-use Prim.Native.Nat.{ℕ, _+_}
-use lib.ListN.{length, getD}
-use Rattle·wire.specs.Write.{write-number}
-use Rattle·wire_write.proofs.Putting.{writes-as, writes-then}
-use Rattle·wire_write.proofs.Texts.{length-number}
-use Rattle·log.proofs.Rooms.{room-first, room-next}
-use Rattle·apply·proofs.Telling.{reply-bytes, session-bytes, room-said, part-long, part-first}
-use Rattle·apply·proofs.tell.write_session.Needs as need
+use Rattle.std.proofs.Common.{ℕ, ◌+◌, List, ◌++◌, length, get_or, arith}
+use Rattle.wire.specs.Write.{write_number}
+use Rattle.wire_write.proofs.Putting.{writes_as, writes_then}
+use Rattle.wire_write.proofs.Texts.{length_number}
+use Rattle.raft_log.proofs.Rooms.{room_first, room_next}
+use Rattle.apply.proofs.Telling.{reply_bytes, session_bytes, room_said, part_long, part_first}
+use Rattle.apply.proofs.tell.write_session.Goals as goal
 
-pub write-number-number-requires : need.write-number-number-requires
-write-number-number-requires c κs =
-    let ws : List ℕ = c .args .kept .now in
-    let rest : List ℕ = write-number (getD ws 1 0) ++ (reply-bytes 2 ws ++ reply-bytes 35 ws) in
-    let whole = room-said (c .args .client) (c .args .at) (length (c .args .out .now)) ws (c .pre .room) in
-    let room = room-first (write-number (c .args .client)) rest (c .args .at) (length (c .args .out .now)) whole in
-    let l = length-number (c .args .client) in
+pub write_number-number-requires : goal.write_number-number-requires
+write_number-number-requires c =
+    let ws : List ℕ = c.args.kept.now in
+    let rest : List ℕ = write_number (get_or ws 1 0) ++ (reply_bytes 2 ws ++ reply_bytes 35 ws) in
+    let whole = room_said c.args.client c.args.at (length c.args.out.now) ws c.requires.room in
+    let room = room_first (write_number c.args.client) rest c.args.at (length c.args.out.now) whole in
+    let l = length_number c.args.client in
     omega arith
 
-pub write-number-after-requires : need.write-number-after-requires
-write-number-after-requires c κs =
-    let ws : List ℕ = c .args .kept .now in
-    let replies : List ℕ = reply-bytes 2 ws ++ reply-bytes 35 ws in
-    let whole = room-said (c .args .client) (c .args .at) (length (c .args .out .now)) ws (c .pre .room) in
-    let room = room-first (write-number (getD ws 1 0)) replies (c .write-number-number .result)
-    (length (c .write-number-number .last .out))
-    (room-next (write-number (getD ws 1 0) ++ replies) whole (c .write-number-number .ensures .bytes)) in
-    let l = length-number (getD ws 1 0) in
+pub write_number-after-requires : goal.write_number-after-requires
+write_number-after-requires c =
+    let ws : List ℕ = c.args.kept.now in
+    let replies : List ℕ = reply_bytes 2 ws ++ reply_bytes 35 ws in
+    let whole = room_said c.args.client c.args.at (length c.args.out.now) ws c.requires.room in
+    let room = room_first (write_number (get_or ws 1 0)) replies c.write_number-number.result
+    (length c.write_number-number.new.out)
+    (room_next (write_number (get_or ws 1 0) ++ replies) whole c.write_number-number.ensures.bytes) in
+    let l = length_number (get_or ws 1 0) in
     omega arith
 
-pub write-perhaps-in-before-requires : need.write-perhaps-in-before-requires
-write-perhaps-in-before-requires c κs =
-    let ws : List ℕ = c .args .kept .now in
-    let replies : List ℕ = reply-bytes 2 ws ++ reply-bytes 35 ws in
-    let whole = room-said (c .args .client) (c .args .at) (length (c .args .out .now)) ws (c .pre .room) in
-    let size = c .pre .size in
-    let low = c .pre .after in
-    let long = part-long 2 ws (omega arith) in
-    let first = part-first 2 ws in
+pub write_perhaps_in-before-requires : goal.write_perhaps_in-before-requires
+write_perhaps_in-before-requires c =
+    let ws : List ℕ = c.args.kept.now in
+    let replies : List ℕ = reply_bytes 2 ws ++ reply_bytes 35 ws in
+    let whole = room_said c.args.client c.args.at (length c.args.out.now) ws c.requires.room in
+    let size = c.requires.size in
+    let low = c.requires.after in
+    let long = part_long 2 ws (omega arith) in
+    let first = part_first 2 ws in
     record {
       some = omega arith;
       sound = omega arith;
-      room = room-first (reply-bytes 2 ws) (reply-bytes 35 ws) (c .write-number-after .result) (length (c .write-number-after .last .out))
-          (room-next replies (room-next (write-number (getD ws 1 0) ++ replies) whole (c .write-number-number .ensures .bytes))
-          (c .write-number-after .ensures .bytes));
+      room = room_first (reply_bytes 2 ws) (reply_bytes 35 ws) c.write_number-after.result (length c.write_number-after.new.out)
+          (room_next replies (room_next (write_number (get_or ws 1 0) ++ replies) whole c.write_number-number.ensures.bytes)
+          c.write_number-after.ensures.bytes);
     }
 
-pub write-perhaps-in-requires : need.write-perhaps-in-requires
-write-perhaps-in-requires c κs =
-    let ws : List ℕ = c .args .kept .now in
-    let replies : List ℕ = reply-bytes 2 ws ++ reply-bytes 35 ws in
-    let whole = room-said (c .args .client) (c .args .at) (length (c .args .out .now)) ws (c .pre .room) in
-    let size = c .pre .size in
-    let low = c .pre .before in
-    let long = part-long 35 ws (omega arith) in
-    let first = part-first 35 ws in
+pub write_perhaps_in-requires : goal.write_perhaps_in-requires
+write_perhaps_in-requires c =
+    let ws : List ℕ = c.args.kept.now in
+    let replies : List ℕ = reply_bytes 2 ws ++ reply_bytes 35 ws in
+    let whole = room_said c.args.client c.args.at (length c.args.out.now) ws c.requires.room in
+    let size = c.requires.size in
+    let low = c.requires.before in
+    let long = part_long 35 ws (omega arith) in
+    let first = part_first 35 ws in
     record {
       some = omega arith;
       sound = omega arith;
-      room = room-next (reply-bytes 35 ws)
-          (room-next replies (room-next (write-number (getD ws 1 0) ++ replies) whole (c .write-number-number .ensures .bytes))
-          (c .write-number-after .ensures .bytes))
-          (c .write-perhaps-in-before .ensures);
+      room = room_next (reply_bytes 35 ws)
+          (room_next replies (room_next (write_number (get_or ws 1 0) ++ replies) whole c.write_number-number.ensures.bytes)
+          c.write_number-after.ensures.bytes)
+          c.write_perhaps_in-before.ensures;
     }
 
-pub returns : need.returns
+pub returns : goal.returns
 returns c =
-    writes-as (session-bytes (c .args .client) (c .args .kept .now))
-    (writes-then (c .write-number-number .ensures .bytes)
-    (writes-then (c .write-number-after .ensures .bytes)
-    (writes-then (c .write-perhaps-in-before .ensures) (c .write-perhaps-in .ensures))))
+    writes_as (session_bytes c.args.client c.args.kept.now)
+    (writes_then c.write_number-number.ensures.bytes
+    (writes_then c.write_number-after.ensures.bytes
+    (writes_then c.write_perhaps_in-before.ensures c.write_perhaps_in.ensures)))

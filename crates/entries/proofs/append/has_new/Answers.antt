@@ -1,21 +1,19 @@
-use mathlib.Core.Path.{_≡_, sym, ap, _∙_}
-use mathlib.Core.List.{List}
-use Prim.Native.Nat.{ℕ}
-use Rattle·servers.specs.Server.{State, Entry}
-use Rattle·wire_read.specs.Means.{entries-of}
-use Rattle·log.specs.Rows.{log-in}
-use Rattle·memory.specs.Layout.{log-part}
-use Rattle·state.specs.Held.{state-of}
-use Rattle·entries·specs.declared.append.Last.{Last}
-use Rattle·entries·proofs.append.has_new.Needs as need
-use Rattle·entries·proofs.Logs.{count-is}
+use Rattle.std.proofs.Common.{◌≡◌, ℕ, List, sym, ap, ◌∙◌}
+use Rattle.servers.specs.Server.{State, Entry}
+use Rattle.wire_read.specs.Means.{entries_of}
+use Rattle.raft_log.specs.Rows.{log_in}
+use Rattle.memory.specs.Layout.{log_part}
+use Rattle.state.specs.Held.{state_of}
+use Rattle.entries.specs.declared.append.Last.{Last}
+use Rattle.entries.proofs.append.has_new.Goals as goal
+use Rattle.entries.proofs.Logs.{count_is}
 
-pub returns : need.returns
+pub returns : goal.returns
 returns c =
-    let m : List ℕ = c .args .mem .now in
-    let es : List Entry = entries-of (c .args .b .now) (c .args .entries) in
-    let log : log-in (c .last-index-len .result) (c .log-part .result .now) ≡ state-of m .log =
-    ap (λ (n : ℕ). log-in n (c .log-part .result .now)) (c .last-index-len .ensures .word)
-    ∙ ap (log-in _) (c .log-part .ensures .rows) in
-    c .has-new .ensures (state-of m) es (sym log) (count-is (c .args .b .now) (c .args .entries) (c .pre .there))
-    (sym (ap (λ (x : Last). x .index) (c .pre .last))) (sym (ap (λ (x : Last). x .term) (c .pre .last)))
+    let m : List ℕ = c.args.mem.now in
+    let es : List Entry = entries_of c.args.b.now c.args.entries in
+    let log : log_in c.last_index-len.result c.log_part.result.now ≡ (state_of m).log =
+    ap (λ (n : ℕ). log_in n c.log_part.result.now) c.last_index-len.ensures.word
+    ∙ ap (log_in _) c.log_part.ensures.rows in
+    c.has_new.ensures (state_of m) es (sym log) (count_is c.args.b.now c.args.entries c.requires.there)
+    (sym (ap (λ (x : Last). x.index) c.requires.last)) (sym (ap (λ (x : Last). x.term) c.requires.last))

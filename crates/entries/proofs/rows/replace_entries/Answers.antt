@@ -1,38 +1,35 @@
-use native.Mathlib.Omega.{arith}
-use mathlib.Core.Path.{_≡_, sym, ap, _∙_}
-use mathlib.Core.List.{List}
-use Prim.Native.Nat.{ℕ, _+_, _-_, _*_}
-use Rattle·servers.specs.Server.{State}
-use Rattle·servers.specs.declared.limits.Limits.{Limits}
-use Rattle·wire_read.specs.Means.{entries-of}
-use Rattle·memory.specs.Layout.{room-in}
-use Rattle·state.specs.Held.{state-of}
-use Rattle·state.proofs.Laws.{long}
-use Rattle·entries·proofs.rows.replace_entries.Needs as need
-use Rattle·entries·proofs.Logs.{count-is, lent, last-long, replace-written}
+use Rattle.std.proofs.Common.{◌≡◌, ℕ, ◌+◌, ◌-◌, ◌*◌, List, sym, ap, ◌∙◌, arith}
+use Rattle.servers.specs.Server.{State}
+use Rattle.servers.specs.declared.limits.Limits.{Limits}
+use Rattle.wire_read.specs.Means.{entries_of}
+use Rattle.memory.specs.Layout.{room_in}
+use Rattle.state.specs.Held.{state_of}
+use Rattle.state.proofs.Laws.{long}
+use Rattle.entries.proofs.rows.replace_entries.Goals as goal
+use Rattle.entries.proofs.Logs.{count_is, lent, last_long, replace_written}
 
-pub part-replace-end : need.part-replace-end
-part-replace-end c =
-    let z = long (c .args .mem .now) (c .pre .held) in
-    let at = c .log-at-at .ensures in
-    let room = ap (λ (x : Limits). x .room) (c .limits .ensures) in
+pub slice_bounds-replace-end : goal.slice_bounds-replace-end
+slice_bounds-replace-end c =
+    let z = long c.args.mem.now c.requires.held in
+    let at = c.log_at-at.ensures in
+    let room = ap (λ (x : Limits). x.room) c.limits.ensures in
     omega arith
 
-pub returns : need.returns
+pub returns : goal.returns
 returns c =
-    let m : List ℕ = c .args .mem .now in
-    let s : State = state-of m in
-    let g = c .pre .held .fits .1 in
-    let at : ℕ = c .log-at-at .result in
-    let size : ℕ = at + 80 * c .limits .result .room - at in
-    let room : c .limits .result .room ≡ room-in m = ap (λ (x : Limits). x .room) (c .limits .ensures) in
-    let wide : size ≡ 80 * room-in m = omega arith in
-    let last = c .last-index-len .ensures .last in
-    let low = c .last-index-len .ensures .low in
-    let is = last-long m (c .pre .held) in
-    let count = count-is (c .args .b .now) (c .args .entries) (c .pre .can .there) in
-    replace-written m (c .replace .last .region) (c .args .before) (entries-of (c .args .b .now) (c .args .entries))
-    (c .args .before + c .args .entries .count) at size (c .pre .held) (c .log-at-at .ensures) wide (omega arith) (c .pre .within)
-    (c .pre .can .room) (c .pre .can .row) (c .pre .can .good)
-    (c .replace .ensures (room-in m) (s .log) (omega arith) (g .row) (omega arith)
-    (lent m at size (c .pre .held) (c .log-at-at .ensures) wide))
+    let m : List ℕ = c.args.mem.now in
+    let s : State = state_of m in
+    let g = c.requires.held.fits.1 in
+    let at : ℕ = c.log_at-at.result in
+    let size : ℕ = at + 80 * c.limits.result.room - at in
+    let room : c.limits.result.room ≡ room_in m = ap (λ (x : Limits). x.room) c.limits.ensures in
+    let wide : size ≡ 80 * room_in m = omega arith in
+    let last = c.last_index-len.ensures.last in
+    let low = c.last_index-len.ensures.low in
+    let is = last_long m c.requires.held in
+    let count = count_is c.args.b.now c.args.entries c.requires.can.there in
+    replace_written m c.replace.new.region c.args.before (entries_of c.args.b.now c.args.entries)
+    (c.args.before + c.args.entries.count) at size c.requires.held c.log_at-at.ensures wide (omega arith) c.requires.within
+    c.requires.can.room c.requires.can.row c.requires.can.good
+    (c.replace.ensures (room_in m) s.log (omega arith) g.row (omega arith)
+    (lent m at size c.requires.held c.log_at-at.ensures wide))

@@ -1,10 +1,9 @@
-use mathlib.Core.Path.{refl}
-use mathlib.Core.List.{[], _∷_}
-use Rattle·wire_write.proofs.Putting.{writes-part}
-use Rattle·group·proofs.index.put_letter.Needs as need
+use Rattle.std.proofs.Common.{[], ◌∷◌, refl}
+use Rattle.wire_write.proofs.Putting.{writes_part}
+use Rattle.group.proofs.index.put_letter.Goals as goal
 
-pub returns : need.returns
+pub returns : goal.returns
 returns c =
-    let l = c .args .l in
-    writes-part (c .args .at) 4 (l .from ∷ (l .to ∷ (l .start ∷ (l .len ∷ [])))) (c .args .letters .now) _
-    (c .copy-from-slice .ensures .after) refl (c .pre)
+    let l = c.args.l in
+    writes_part c.args.at 4 (l.from ∷ (l.to ∷ (l.start ∷ (l.len ∷ [])))) c.args.letters.now _
+    c.copy_from_slice.ensures.after refl c.requires

@@ -1,8 +1,8 @@
-use Rattle·group·proofs.Posting.{size-read, size-there}
-use Rattle·group·proofs.index.size_at.Needs as need
+use Rattle.group.proofs.Posting.{size_read, size_there}
+use Rattle.group.proofs.index.size_at.Goals as goal
 
-pub unreachable-requires : need.unreachable-requires
-unreachable-requires c κs = size-there (c .args .bytes .now) (c .args .at) _ (c .pre) (c .in-Err .ensures tt .value)
+pub unreachable-requires : goal.unreachable-requires
+unreachable-requires c = size_there c.args.bytes.now c.args.at _ c.requires c.in-Err.ensures.value
 
-pub returns : need.returns
-returns c = size-read (c .args .bytes .now) (c .args .at) (c .in-Ok .size) _ (c .pre) (c .in-Ok .ensures tt .value)
+pub returns : goal.returns
+returns c = size_read c.args.bytes.now c.args.at c.in-Ok.size _ c.requires c.in-Ok.ensures.value

@@ -1,25 +1,22 @@
-use native.Mathlib.Omega.{arith}
-use mathlib.Core.Path.{sym, subst, _∙_}
-use lib.ListN.{length}
-use Rattle·std.specs.declared.result.Result.{Result}
-use Rattle·servers.specs.Server.{Limits}
-use Rattle·servers.specs.World.{limits}
-use Rattle·server.specs.Opening.{Opens}
-use Rattle·server.specs.declared.open.Short.{Short}
-use Rattle·server.proofs.Opened.{lent-enough}
-use Rattle·group·specs.Playing.{group-of}
-use Rattle·group·proofs.Playing.{good-limits}
-use Rattle·group·proofs.open.open_one.Needs as need
+use Rattle.std.proofs.Common.{length, Result, sym, ◌∙◌, subst, arith}
+use Rattle.servers.specs.Server.{Limits}
+use Rattle.servers.specs.World.{limits}
+use Rattle.server.specs.Opening.{Opens}
+use Rattle.server.specs.declared.open.Short.{Short}
+use Rattle.server.proofs.Opened.{lent_enough}
+use Rattle.group.specs.Playing.{group_of}
+use Rattle.group.proofs.Playing.{good_limits}
+use Rattle.group.proofs.open.open_one.Goals as goal
 
-pub open-requires : need.open-requires
-open-requires c κs = record { good = good-limits (group-of (c .args .g)) (c .args .me) (c .pre .there) (c .pre .sized .good) }
+pub open-requires : goal.open-requires
+open-requires c = record { good = good_limits (group_of c.args.g) c.args.me c.requires.there c.requires.sized.good }
 
-pub returns : need.returns
+pub returns : goal.returns
 returns c =
-    let l : Limits = limits (group-of (c .args .g)) (c .args .me) in
-    let long = c .pre .long in
-    let each = c .pre .sized .each in
-    let answer = c .pre .sized .answer in
-    let enough = lent-enough l (length (c .args .mem .now)) (c .args .g .longest) (long ∙ each) (omega arith) in
-    subst (λ (r : Result (Unit {0}) Short). Opens l (c .args .mem .now) (c .open .last .mem) r) (c .open .ensures .value ∙ sym enough)
-    (c .open .ensures .memory) .0
+    let l : Limits = limits (group_of c.args.g) c.args.me in
+    let long = c.requires.long in
+    let each = c.requires.sized.each in
+    let answer = c.requires.sized.answer in
+    let enough = lent_enough l (length c.args.mem.now) c.args.g.longest (long ∙ each) (omega arith) in
+    (subst (λ (r : Result (Unit {0}) Short). Opens l c.args.mem.now c.open.new.mem r) (c.open.ensures.value ∙ sym enough)
+    c.open.ensures.memory).0

@@ -1,34 +1,32 @@
-use mathlib.Core.Path.{sym, ap, subst, _∙_}
-use Prim.Native.Nat.{ℕ}
-use Rattle·std.specs.declared.result.Result.{Result}
-use Rattle·servers.specs.declared.limits.Unfit.{Unfit}
-use Rattle·servers.proofs.Opening.{opened-is-good}
-use Rattle·memory.specs.Program.{serves}
-use Rattle·group·specs.Opening.{Fits-group, group-sized}
-use Rattle·group·specs.declared.happen.Group.{Group}
-use Rattle·group·proofs.Opening.{sized-is, sized-fits}
-use Rattle·group·proofs.open.sized.Needs as need
+use Rattle.std.proofs.Common.{ℕ, Result, sym, ap, ◌∙◌, subst}
+use Rattle.servers.specs.declared.limits.Unfit.{Unfit}
+use Rattle.servers.proofs.Opening.{opened_is_good}
+use Rattle.memory.specs.Program.{serves}
+use Rattle.group.specs.Opening.{FitsGroup, group_sized}
+use Rattle.group.specs.declared.happen.Group.{Group}
+use Rattle.group.proofs.Opening.{sized_is, sized_fits}
+use Rattle.group.proofs.open.sized.Goals as goal
 
-pub memory-words-requires : need.memory-words-requires
-memory-words-requires c κs =
-    record { good = opened-is-good serves (c .args .servers) 0 (c .args .clients) (c .args .room) (c .in-Ok .l) (sym (c .new .ensures) ∙ c .in-Ok .is) }
+pub memory_words-requires : goal.memory_words-requires
+memory_words-requires c =
+    record { good = opened_is_good serves c.args.servers 0 c.args.clients c.args.room c.in-Ok.l (sym c.new.ensures ∙ c.in-Ok.is) }
 
-pub answer-bytes-requires : need.answer-bytes-requires
-answer-bytes-requires c κs =
-    record { good = opened-is-good serves (c .args .servers) 0 (c .args .clients) (c .args .room) (c .in-Ok .l) (sym (c .new .ensures) ∙ c .in-Ok .is) }
+pub answer_bytes-requires : goal.answer_bytes-requires
+answer_bytes-requires c =
+    record { good = opened_is_good serves c.args.servers 0 c.args.clients c.args.room c.in-Ok.l (sym c.new.ensures ∙ c.in-Ok.is) }
 
-pub returns-in-Err : need.returns-in-Err
-returns-in-Err c = record { value = sym (ap group-sized (sym (c .new .ensures) ∙ c .in-Err .is)); sized = tt }
+pub returns-in-Err : goal.returns-in-Err
+returns-in-Err c = record { value = sym (ap group_sized (sym c.new.ensures ∙ c.in-Err.is)); sized = tt }
 
-pub returns-in-Ok : need.returns-in-Ok
+pub returns-in-Ok : goal.returns-in-Ok
 returns-in-Ok c =
-    let w : ℕ = c .memory-words .result in
-    let a : ℕ = c .answer-bytes .result in
-    let made = sized-is (c .in-Ok .l) w a (c .memory-words .ensures) (c .answer-bytes .ensures) in
-    let from = sym (c .new .ensures) ∙ c .in-Ok .is in
+    let w : ℕ = c.memory_words.result in
+    let a : ℕ = c.answer_bytes.result in
+    let made = sized_is c.in-Ok.l w a c.memory_words.ensures c.answer_bytes.ensures in
+    let from = sym c.new.ensures ∙ c.in-Ok.is in
     record {
-      value = made ∙ sym (ap group-sized from);
+      value = made ∙ sym (ap group_sized from);
       sized =
-          subst (λ (r : Result Group Unfit). Fits-group r) (sym made)
-          (sized-fits (c .args .servers) (c .args .clients) (c .args .room) (c .in-Ok .l) from);
+          subst (λ (r : Result Group Unfit). FitsGroup r) (sym made)
+          (sized_fits c.args.servers c.args.clients c.args.room c.in-Ok.l from);
     }

@@ -1,6 +1,6 @@
-use Rattle·group·proofs.Parts.{alive-new, alive-on}
-use Rattle·group·proofs.Explained.{alive-is-explained}
-use Rattle·group·proofs.promises.group_is_explained.Needs as need
+use Rattle.group.proofs.Parts.{alive_new, alive_on}
+use Rattle.group.proofs.Explained.{alive_is_explained}
+use Rattle.group.proofs.promises.group_is_explained.Goals as goal
 
-pub returns : need.returns
-returns c = record { new = alive-new; on = alive-on; explained = alive-is-explained }
+pub returns : goal.returns
+returns c = record { new = alive_new; on = alive_on; explained = alive_is_explained }

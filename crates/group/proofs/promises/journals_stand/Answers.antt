@@ -1,5 +1,5 @@
-use Rattle·group·proofs.Journals.{journals-open, journals-tell, journals-grow, grown-happens}
-use Rattle·group·proofs.promises.journals_stand.Needs as need
+use Rattle.group.proofs.Journals.{journals_open, journals_tell, journals_grow, grown_happens}
+use Rattle.group.proofs.promises.journals_stand.Goals as goal
 
-pub returns : need.returns
-returns c = record { new = journals-open; tell = journals-tell; grow = journals-grow; happens = grown-happens }
+pub returns : goal.returns
+returns c = record { new = journals_open; tell = journals_tell; grow = journals_grow; happens = grown_happens }

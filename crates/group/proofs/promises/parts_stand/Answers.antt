@@ -1,5 +1,5 @@
-use Rattle·group·proofs.Parts.{parts-open, parts-step}
-use Rattle·group·proofs.promises.parts_stand.Needs as need
+use Rattle.group.proofs.Parts.{parts_open, parts_step}
+use Rattle.group.proofs.promises.parts_stand.Goals as goal
 
-pub returns : need.returns
-returns c = record { new = parts-open; step = parts-step }
+pub returns : goal.returns
+returns c = record { new = parts_open; step = parts_step }

@@ -1,23 +1,23 @@
-use borrow.Author.Needs.{needs}
-use Rattle·wire.specs.Read.{read-said}
-use Rattle·group·proofs.told.read_said.Needs as need
+use Rattle.std.proofs.Common.{rules}
+use Rattle.wire.specs.Read.{read_said}
+use Rattle.group.proofs.told.read_said.Goals as goal
 
-pub returns-in-Break-client : need.returns-in-Break-client
-unfolding read-said
-returns-in-Break-client c = search needs
+pub returns-in_err-client : goal.returns-in_err-client
+unfolding read_said
+returns-in_err-client c = search rules
 
-pub returns-in-Break-id : need.returns-in-Break-id
-unfolding read-said
-returns-in-Break-id c = search needs
+pub returns-in_err-id : goal.returns-in_err-id
+unfolding read_said
+returns-in_err-id c = search rules
 
-pub returns-in-Break-now : need.returns-in-Break-now
-unfolding read-said
-returns-in-Break-now c = search needs
+pub returns-in_err-now : goal.returns-in_err-now
+unfolding read_said
+returns-in_err-now c = search rules
 
-pub returns-in-Break-old : need.returns-in-Break-old
-unfolding read-said
-returns-in-Break-old c = search needs
+pub returns-in_err-old : goal.returns-in_err-old
+unfolding read_said
+returns-in_err-old c = search rules
 
-pub returns : need.returns
-unfolding read-said
-returns c = search needs
+pub returns : goal.returns
+unfolding read_said
+returns c = search rules

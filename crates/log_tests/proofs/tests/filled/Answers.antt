@@ -1,7 +1,7 @@
-use native.Mathlib.Omega.{arith}
-use Rattle·log_tests·proofs.tests.filled.Needs as need
-use Rattle·log_tests·proofs.Held.{held-none}
+use Rattle.std.proofs.Common.{arith}
+use Rattle.log_tests.proofs.tests.filled.Goals as goal
+use Rattle.log_tests.proofs.Held.{held_none}
 
-pub pushed-requires : need.pushed-requires
-pushed-requires c κs =
-    record { held = held-none (c .args .region .now) (c .pre .region); room = omega arith; bytes = c .pre .bytes }
+pub pushed-requires : goal.pushed-requires
+pushed-requires c =
+    record { held = held_none c.args.region.now c.requires.region; room = omega arith; bytes = c.requires.bytes }

@@ -1,22 +1,22 @@
-use native.Mathlib.Omega.{arith}
-use Rattle·log_tests·proofs.tests.sent.Needs as need
-use Rattle·log_tests·proofs.Held.{held-long, held-sound}
+use Rattle.std.proofs.Common.{arith}
+use Rattle.log_tests.proofs.tests.sent.Goals as goal
+use Rattle.log_tests.proofs.Held.{held_long, held_sound}
 
-pub entries-size-requires : need.entries-size-requires
-entries-size-requires c κs =
-    let room = c .pre .room in
-    let long = held-long (c .args .len) (c .args .region .now) (c .pre .held) (omega arith) in
-    record { low = omega arith; there = omega arith; sound = held-sound (c .args .len) (c .args .region .now) (c .pre .held) }
+pub entries_size-requires : goal.entries_size-requires
+entries_size-requires c =
+    let room = c.requires.room in
+    let long = held_long c.args.len c.args.region.now c.requires.held (omega arith) in
+    record { low = omega arith; there = omega arith; sound = held_sound c.args.len c.args.region.now c.requires.held }
 
-pub write-entries-requires : need.write-entries-requires
-write-entries-requires c κs =
-    let room = c .pre .room in
-    let size = c .entries-size .ensures .exact in
-    let fits = c .if-entries-size-out .left in
-    let long = held-long (c .args .len) (c .args .region .now) (c .pre .held) (omega arith) in
+pub write_entries-requires : goal.write_entries-requires
+write_entries-requires c =
+    let room = c.requires.room in
+    let size = c.entries_size.ensures.exact in
+    let fits = c.if-entries_size-out.false in
+    let long = held_long c.args.len c.args.region.now c.requires.held (omega arith) in
     record {
       low = omega arith;
       there = omega arith;
-      sound = held-sound (c .args .len) (c .args .region .now) (c .pre .held);
+      sound = held_sound c.args.len c.args.region.now c.requires.held;
       room = omega arith;
     }

@@ -1,21 +1,21 @@
-use native.Mathlib.Omega.{arith}
-use Rattle·servers.specs.Server.{State}
-use Rattle·state.specs.Held.{state-of}
-use Rattle·sending·specs.Letters.{asks}
-use Rattle·sending·proofs.letter.write_ask_letter.Needs as need
-use Rattle·sending·proofs.Letters.{sealed, same-ask, length-post, length-ask-message}
+use Rattle.std.proofs.Common.{arith}
+use Rattle.servers.specs.Server.{State}
+use Rattle.state.specs.Held.{state_of}
+use Rattle.sending.specs.Letters.{asks}
+use Rattle.sending.proofs.letter.write_ask_letter.Goals as goal
+use Rattle.sending.proofs.Letters.{sealed, same_ask, length_post, length_ask_message}
 
-pub write-ask-vote-end-requires : need.write-ask-vote-end-requires
-write-ask-vote-end-requires c κs =
-    let s : State = state-of (c .args .mem .now) in
-    let p = length-post (c .args .h) (asks s) in
-    let m = length-ask-message s in
+pub write_ask_vote-end-requires : goal.write_ask_vote-end-requires
+write_ask_vote-end-requires c =
+    let s : State = state_of c.args.mem.now in
+    let p = length_post c.args.h (asks s) in
+    let m = length_ask_message s in
     omega arith
 
-pub returns : need.returns
+pub returns : goal.returns
 returns c =
     sealed
-    (same-ask (c .args .mem .now) (c .log-part .result .now) (c .last-index-len .result) (c .term-term .result) (c .last-term-last .result)
-    (c .last-index-len .ensures .word) (c .log-part .ensures .rows) (c .term-term .ensures .value) (c .last-index-len .ensures .last)
-    (c .last-term-last .ensures))
-    (c .write-ask-vote-end .ensures .bytes) (c .seal .ensures .head) (c .seal .ensures .same)
+    (same_ask c.args.mem.now c.log_part.result.now c.last_index-len.result c.term-term.result c.last_term-last.result
+    c.last_index-len.ensures.word c.log_part.ensures.rows c.term-term.ensures.value c.last_index-len.ensures.last
+    c.last_term-last.ensures)
+    c.write_ask_vote-end.ensures.bytes c.seal.ensures.head c.seal.ensures.same

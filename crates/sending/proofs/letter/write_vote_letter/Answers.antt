@@ -1,13 +1,12 @@
-use native.Mathlib.Omega.{arith}
-use mathlib.Core.Path.{refl}
-use Rattle·servers.specs.Server.{Message, vote}
-use Rattle·sending·proofs.letter.write_vote_letter.Needs as need
-use Rattle·sending·proofs.Letters.{sealed}
+use Rattle.std.proofs.Common.{refl, arith}
+use Rattle.servers.specs.Server.{Message, vote}
+use Rattle.sending.proofs.letter.write_vote_letter.Goals as goal
+use Rattle.sending.proofs.Letters.{sealed}
 
-pub returns : need.returns
+pub returns : goal.returns
 returns c =
-    let m : Message = vote (c .args .term) (c .args .granted) in
+    let m : Message = vote c.args.term c.args.granted in
     record {
-      bytes = sealed {m = m} refl (c .write-vote-end .ensures .bytes) (c .seal .ensures .head) (c .seal .ensures .same);
+      bytes = sealed {m = m} refl c.write_vote-end.ensures.bytes c.seal.ensures.head c.seal.ensures.same;
       next = omega arith;
     }

@@ -1,11 +1,10 @@
-use mathlib.Core.Path.{ap, _∙_}
-use Prim.Native.Nat.{_-_}
-use Rattle·servers.specs.declared.limits.Limits.{Limits}
-use Rattle·sending·proofs.others.others.Needs as need
-use Rattle·sending·proofs.ToAll.{how-many}
-use Rattle·memory.specs.Layout.{servers-in, me-in}
+use Rattle.std.proofs.Common.{◌-◌, ap, ◌∙◌}
+use Rattle.servers.specs.declared.limits.Limits.{Limits}
+use Rattle.sending.proofs.others.others.Goals as goal
+use Rattle.sending.proofs.ToAll.{how_many}
+use Rattle.memory.specs.Layout.{servers_in, me_in}
 
-pub returns : need.returns
+pub returns : goal.returns
 returns c =
-    λ f. ap (λ (l : Limits). l .servers - 1) (c .limits .ensures)
-    ∙ how-many (servers-in (c .args .mem .now)) (me-in (c .args .mem .now)) f (c .pre .held .good .me)
+    λ f. ap (λ (l : Limits). l.servers - 1) c.limits.ensures
+    ∙ how_many (servers_in c.args.mem.now) (me_in c.args.mem.now) f c.requires.held.good.me

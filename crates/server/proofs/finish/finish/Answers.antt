@@ -1,64 +1,60 @@
-use native.Mathlib.Omega.{arith}
-use mathlib.Core.Path.{_≡_, sym, ap, subst, _∙_}
-use mathlib.Core.List.{List}
-use Prim.Native.Nat.{ℕ}
-use lib.ListN.{length}
-use Rattle·servers.specs.Server.{Limits, tell-all, dues}
-use Rattle·wire.specs.Write.{write-saids}
-use Rattle·wire_write.proofs.Putting.{length-put}
-use Rattle·state.specs.Held.{limits-of, state-of}
-use Rattle·apply.proofs.Sizes.{told-fits}
-use Rattle·server·specs.First.{letters-of}
-use Rattle·server·proofs.Finishing.{Pieces, pieces-turn, pieces-tell, pieces-send, letters-fit}
-use Rattle·server·proofs.Written.{does-written, does-answered}
-use Rattle·server·proofs.finish.finish.Needs as need
+use Rattle.std.proofs.Common.{◌≡◌, ℕ, List, length, sym, ap, ◌∙◌, subst, arith}
+use Rattle.servers.specs.Server.{Limits, tell_all, dues}
+use Rattle.wire.specs.Write.{write_saids}
+use Rattle.wire_write.proofs.Putting.{length_put}
+use Rattle.state.specs.Held.{limits_of, state_of}
+use Rattle.apply.proofs.Sizes.{told_fits}
+use Rattle.server.specs.First.{letters_of}
+use Rattle.server.proofs.Finishing.{Pieces, pieces_turn, pieces_tell, pieces_send, letters_fit}
+use Rattle.server.proofs.Written.{does_written, does_answered}
+use Rattle.server.proofs.finish.finish.Goals as goal
 
-pub apply-all-told-requires : need.apply-all-told-requires
-apply-all-told-requires c κs =
-    let m₂ : List ℕ = c .take-send-send .last .mem in
-    let held = c .take-send-send .ensures .state .held in
-    let most = told-fits m₂ held in
-    let same = ap (λ (l : Limits). l .room) (c .take-send-send .ensures .state .limits ∙ c .settle .ensures .limits) in
-    let room = c .pre .room .told in
+pub apply_all-told-requires : goal.apply_all-told-requires
+apply_all-told-requires c =
+    let m₂ : List ℕ = c.take_send-send.new.mem in
+    let held = c.take_send-send.ensures.state.held in
+    let most = told_fits m₂ held in
+    let same = ap (λ (l : Limits). l.room) (c.take_send-send.ensures.state.limits ∙ c.settle.ensures.limits) in
+    let room = c.requires.room.told in
     record { held = held; room = omega arith }
 
-pub write-letters-sent-requires : need.write-letters-sent-requires
-write-letters-sent-requires c κs =
-    let m : List ℕ = c .args .mem .now in
-    let m₁ : List ℕ = c .settle .last .mem in
-    let m₂ : List ℕ = c .take-send-send .last .mem in
-    let m₃ : List ℕ = c .apply-all-told .last .mem in
-    let p : Pieces m m₁ m₂ m₃ (c .take-send-send .result) = record {
-      settled = c .settle .ensures;
-      sent = c .take-send-send .ensures .state;
-      why = c .take-send-send .ensures .value;
-      done = c .apply-all-told .ensures .turns;
+pub write_letters-sent-requires : goal.write_letters-sent-requires
+write_letters-sent-requires c =
+    let m : List ℕ = c.args.mem.now in
+    let m₁ : List ℕ = c.settle.new.mem in
+    let m₂ : List ℕ = c.take_send-send.new.mem in
+    let m₃ : List ℕ = c.apply_all-told.new.mem in
+    let p : Pieces m m₁ m₂ m₃ c.take_send-send.result = record {
+      settled = c.settle.ensures;
+      sent = c.take_send-send.ensures.state;
+      why = c.take_send-send.ensures.value;
+      done = c.apply_all-told.ensures.turns;
     } in
-    let fit = letters-fit m m₁ m₂ m₃ (c .take-send-send .result) (c .args .first) (length (c .args .out .now)) p (c .pre .room .answer) in
-    let w = c .apply-all-told .ensures .bytes in
-    let next = w .next in
-    let room = w .room in
-    let ss : List ℕ = write-saids (tell-all (limits-of m₂) (state-of m₂) (dues (state-of m₂))) in
-    let same = ap length (w .bytes) ∙ length-put 9 ss (c .args .out .now) (omega arith) in
-    record { held = c .apply-all-told .ensures .turns .held; room = omega arith }
+    let fit = letters_fit m m₁ m₂ m₃ c.take_send-send.result c.args.first (length c.args.out.now) p c.requires.room.answer in
+    let w = c.apply_all-told.ensures.bytes in
+    let next = w.next in
+    let room = w.room in
+    let ss : List ℕ = write_saids (tell_all (limits_of m₂) (state_of m₂) (dues (state_of m₂))) in
+    let same = ap length w.bytes ∙ length_put 9 ss c.args.out.now (omega arith) in
+    record { held = c.apply_all-told.ensures.turns.held; room = omega arith }
 
-pub returns : need.returns
+pub returns : goal.returns
 returns c =
-    let m : List ℕ = c .args .mem .now in
-    let m₁ : List ℕ = c .settle .last .mem in
-    let m₂ : List ℕ = c .take-send-send .last .mem in
-    let m₃ : List ℕ = c .apply-all-told .last .mem in
-    let b = c .take-send-send .result in
+    let m : List ℕ = c.args.mem.now in
+    let m₁ : List ℕ = c.settle.new.mem in
+    let m₂ : List ℕ = c.take_send-send.new.mem in
+    let m₃ : List ℕ = c.apply_all-told.new.mem in
+    let b = c.take_send-send.result in
     let p : Pieces m m₁ m₂ m₃ b = record {
-      settled = c .settle .ensures;
-      sent = c .take-send-send .ensures .state;
-      why = c .take-send-send .ensures .value;
-      done = c .apply-all-told .ensures .turns;
+      settled = c.settle.ensures;
+      sent = c.take_send-send.ensures.state;
+      why = c.take_send-send.ensures.value;
+      done = c.apply_all-told.ensures.turns;
     } in
-    let ss = tell-all (limits-of m₂) (state-of m₂) (dues (state-of m₂)) in
-    let ls = letters-of b (limits-of m₃) (state-of m₃) (c .args .first) in
-    let w = does-written ss ls (c .apply-all-told .ensures .count) (c .apply-all-told .ensures .bytes)
-    (c .write-letters-sent .ensures .bytes) (c .write-does-head .ensures .bytes) (omega (arith, c .write-does-head .ensures .next)) in
-    let a = does-answered (pieces-tell m m₁ m₂ m₃ b p) (pieces-send m m₁ m₂ m₃ b (c .args .first) p)
-    (c .apply-all-told .ensures .count) (c .write-letters-sent .ensures .count) w in
-    record { turns = pieces-turn m m₁ m₂ m₃ b p; answer-is = a .0; bytes = a .1 }
+    let ss = tell_all (limits_of m₂) (state_of m₂) (dues (state_of m₂)) in
+    let ls = letters_of b (limits_of m₃) (state_of m₃) c.args.first in
+    let w = does_written ss ls c.apply_all-told.ensures.count c.apply_all-told.ensures.bytes
+    c.write_letters-sent.ensures.bytes c.write_does_head.ensures.bytes (omega (arith, c.write_does_head.ensures.next)) in
+    let a = does_answered (pieces_tell m m₁ m₂ m₃ b p) (pieces_send m m₁ m₂ m₃ b c.args.first p)
+    c.apply_all-told.ensures.count c.write_letters-sent.ensures.count w in
+    record { turns = pieces_turn m m₁ m₂ m₃ b p; answer_is = a.0; bytes = a.1 }

@@ -1,24 +1,19 @@
-use native.Mathlib.Omega.{arith}
-use mathlib.Core.Path.{sym, ap, _∙_}
-use mathlib.Core.Bool.{Bool}
-use mathlib.Core.List.{List}
-use Prim.Native.Nat.{ℕ}
-use lib.ListN.{length}
-use Rattle·servers.specs.Server.{Message, to-server}
-use Rattle·memory.specs.Layout.{servers-in, me-in}
-use Rattle·state.specs.Held.{limits-of, state-of}
-use Rattle·sending.proofs.ToAll.{how-many}
-use Rattle·server·specs.First.{entries-if}
-use Rattle·server·proofs.first.count_entries.Needs as need
+use Rattle.std.proofs.Common.{ℕ, Bool, List, length, sym, ap, ◌∙◌, arith}
+use Rattle.servers.specs.Server.{Message, to_server}
+use Rattle.memory.specs.Layout.{servers_in, me_in}
+use Rattle.state.specs.Held.{limits_of, state_of}
+use Rattle.sending.proofs.ToAll.{how_many}
+use Rattle.server.specs.First.{entries_if}
+use Rattle.server.proofs.first.count_entries.Goals as goal
 
-pub returns-then-send : need.returns-then-send
+pub returns-then-send : goal.returns-then-send
 returns-then-send c =
-    let m : List ℕ = c .args .mem .now in
-    let f : (ℕ → Message) = λ h. to-server (state-of m) h in
-    let few = c .pre .held .good .servers in
-    let n = how-many (servers-in m) (me-in m) f (c .pre .held .good .me) in
-    let e = c .others .ensures f in
+    let m : List ℕ = c.args.mem.now in
+    let f : (ℕ → Message) = λ h. to_server (state_of m) h in
+    let few = c.requires.held.good.servers in
+    let n = how_many (servers_in m) (me_in m) f c.requires.held.good.me in
+    let e = c.others.ensures f in
     record {
-      value = e ∙ ap (λ (b : Bool). length (entries-if b (limits-of m) (state-of m))) (sym (c .if-send .taken));
+      value = e ∙ ap (λ (b : Bool). length (entries_if b (limits_of m) (state_of m))) (sym c.if-send.true);
       low = omega arith;
     }

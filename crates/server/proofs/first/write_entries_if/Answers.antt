@@ -1,10 +1,9 @@
-use native.Mathlib.Omega.{arith}
-use mathlib.Core.Path.{sym}
-use Rattle·wire_write.proofs.Putting.{writes-none, writes-as}
-use Rattle·server·proofs.Sent.{letters-none}
-use Rattle·server·proofs.first.write_entries_if.Needs as need
+use Rattle.std.proofs.Common.{sym, arith}
+use Rattle.wire_write.proofs.Putting.{writes_none, writes_as}
+use Rattle.server.proofs.Sent.{letters_none}
+use Rattle.server.proofs.first.write_entries_if.Goals as goal
 
-pub returns-else-send : need.returns-else-send
+pub returns-else-send : goal.returns-else-send
 returns-else-send c =
-    let p = c .pre .room in
-    rw (c .if-send .left) (writes-as (sym letters-none) (writes-none (c .args .at) (c .args .out .now) (omega arith)))
+    let p = c.requires.room in
+    rw c.if-send.false (writes_as (sym letters_none) (writes_none c.args.at c.args.out.now (omega arith)))

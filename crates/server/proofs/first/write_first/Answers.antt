@@ -1,37 +1,35 @@
-use native.Mathlib.Omega.{arith}
-use mathlib.Core.Path.{sym, ap}
-use lib.ListN.{length}
-use Rattle·servers.specs.Server.{vote, appended}
-use Rattle·wire_write.proofs.Putting.{writes-none, writes-as}
-use Rattle·server·proofs.Sent.{letters-none, letters-one, length-vote, length-reply}
-use Rattle·server·proofs.first.write_first.Needs as need
+use Rattle.std.proofs.Common.{length, sym, ap, arith}
+use Rattle.servers.specs.Server.{vote, appended}
+use Rattle.wire_write.proofs.Putting.{writes_none, writes_as}
+use Rattle.server.proofs.Sent.{letters_none, letters_one, length_vote, length_reply}
+use Rattle.server.proofs.first.write_first.Goals as goal
 
-pub write-vote-letter-requires : need.write-vote-letter-requires
-write-vote-letter-requires c κs =
-    let a = c .in-Vote in
-    let p = rw (c .in-Vote .is) at (c .pre .room) in
-    let e = length-vote (a .to) (a .term) (a .granted) in
+pub write_vote_letter-requires : goal.write_vote_letter-requires
+write_vote_letter-requires c =
+    let a = c.in-Vote in
+    let p = rw c.in-Vote.is at c.requires.room in
+    let e = length_vote a.to a.term a.granted in
     omega arith
 
-pub write-appended-letter-requires : need.write-appended-letter-requires
-write-appended-letter-requires c κs =
-    let a = c .in-Reply in
-    let p = rw (c .in-Reply .is) at (c .pre .room) in
-    let e = length-reply (a .to) (a .term) (a .index) (a .ok) in
+pub write_appended_letter-requires : goal.write_appended_letter-requires
+write_appended_letter-requires c =
+    let a = c.in-Reply in
+    let p = rw c.in-Reply.is at c.requires.room in
+    let e = length_reply a.to a.term a.index a.ok in
     omega arith
 
-pub returns-in-Nothing : need.returns-in-Nothing
+pub returns-in-Nothing : goal.returns-in-Nothing
 returns-in-Nothing c =
-    let p = c .pre .room in
-    rw (c .in-Nothing .is) (writes-as (sym letters-none) (writes-none (c .args .at) (c .args .out .now) (omega arith)))
+    let p = c.requires.room in
+    rw c.in-Nothing.is (writes_as (sym letters_none) (writes_none c.args.at c.args.out.now (omega arith)))
 
-pub returns-in-Vote : need.returns-in-Vote
+pub returns-in-Vote : goal.returns-in-Vote
 returns-in-Vote c =
-    let a = c .in-Vote in
-    rw (c .in-Vote .is) (writes-as (sym (letters-one (a .to) (vote (a .term) (a .granted)))) (c .write-vote-letter .ensures .bytes))
+    let a = c.in-Vote in
+    rw c.in-Vote.is (writes_as (sym (letters_one a.to (vote a.term a.granted))) c.write_vote_letter.ensures.bytes)
 
-pub returns-in-Reply : need.returns-in-Reply
+pub returns-in-Reply : goal.returns-in-Reply
 returns-in-Reply c =
-    let a = c .in-Reply in
-    rw (c .in-Reply .is)
-    (writes-as (sym (letters-one (a .to) (appended (a .term) (a .index) (a .ok)))) (c .write-appended-letter .ensures .bytes))
+    let a = c.in-Reply in
+    rw c.in-Reply.is
+    (writes_as (sym (letters_one a.to (appended a.term a.index a.ok))) c.write_appended_letter.ensures.bytes)

@@ -1,5 +1,5 @@
-use Rattle·server·proofs.Reaching.{reached-held, reached-limits}
-use Rattle·server·proofs.promises.reached_holds.Needs as need
+use Rattle.server.proofs.Reaching.{reached_held, reached_limits}
+use Rattle.server.proofs.promises.reached_holds.Goals as goal
 
-pub returns : need.returns
-returns c = λ l m x. (reached-held l m x, reached-limits l m x)
+pub returns : goal.returns
+returns c = λ l m x. (reached_held l m x, reached_limits l m x)

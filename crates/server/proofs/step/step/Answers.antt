@@ -1,37 +1,34 @@
-use native.Mathlib.Omega.{arith}
-use mathlib.Core.List.{List}
-use Prim.Native.Nat.{ℕ}
-use lib.ListN.{length}
-use Rattle·wire.specs.Read.{read-event}
-use Rattle·wire.specs.Codec.{Slice}
-use Rattle·wire.proofs.Places.{read-is-readable}
-use Rattle·state.specs.Held.{limits-of}
-use Rattle·server·proofs.Bytes.{are-bytes}
-use Rattle·server·proofs.Reaching.{reached-held, reached-limits, reached-self, reached-room, reached-on, stepped}
-use Rattle·server·proofs.step.step.Needs as need
+use Rattle.std.proofs.Common.{ℕ, List, length, arith}
+use Rattle.wire.specs.Read.{read_event}
+use Rattle.wire.specs.Codec.{Slice}
+use Rattle.wire.proofs.Places.{read_is_readable}
+use Rattle.state.specs.Held.{limits_of}
+use Rattle.server.proofs.Bytes.{are_bytes}
+use Rattle.server.proofs.Reaching.{reached_held, reached_limits, reached_self, reached_room, reached_on, stepped}
+use Rattle.server.proofs.step.step.Goals as goal
 
-pub act-requires : need.act-requires
-act-requires c κs =
-    let m : List ℕ = c .args .mem .now in
-    let bs : List ℕ = c .args .event .now in
-    let slice : Slice bs = (are-bytes bs (λ i. let f = c .typed .event i in omega arith), omega arith) in
-    let p = read-is-readable bs slice in
-    let room = c .pre .room in
+pub act-requires : goal.act-requires
+act-requires c =
+    let m : List ℕ = c.args.mem.now in
+    let bs : List ℕ = c.args.event.now in
+    let slice : Slice bs = (are_bytes bs (λ i. let f = c.type_inv.event i in omega arith), omega arith) in
+    let p = read_is_readable bs slice in
+    let room = c.requires.room in
     record {
-      held = reached-held (limits-of m) m (c .pre .reached);
+      held = reached_held (limits_of m) m c.requires.reached;
       readable = p;
-      room = reached-room m (read-event bs) (length (c .args .out .now)) (c .pre .reached) p (c .pre .room);
+      room = reached_room m (read_event bs) (length c.args.out.now) c.requires.reached p c.requires.room;
       enough = omega arith;
     }
 
-pub returns : need.returns
+pub returns : goal.returns
 returns c =
-    let m : List ℕ = c .args .mem .now in
-    let bs : List ℕ = c .args .event .now in
-    let slice : Slice bs = (are-bytes bs (λ i. let f = c .typed .event i in omega arith), omega arith) in
-    let p = read-is-readable bs slice in
-    let s = stepped m bs (c .args .out .now) (c .act .last .mem) (c .act .last .out) (c .act .result) (c .pre .reached) p
-    (c .act .ensures) in
-    let m′ : List ℕ = c .act .last .mem in
-    let x = reached-on (limits-of m) m m′ (read-event bs) (c .pre .reached) p (s .memory) in
-    record { done = s; reached = reached-self (limits-of m) m′ x; limits = reached-limits (limits-of m) m′ x }
+    let m : List ℕ = c.args.mem.now in
+    let bs : List ℕ = c.args.event.now in
+    let slice : Slice bs = (are_bytes bs (λ i. let f = c.type_inv.event i in omega arith), omega arith) in
+    let p = read_is_readable bs slice in
+    let s = stepped m bs c.args.out.now c.act.new.mem c.act.new.out c.act.result c.requires.reached p
+    c.act.ensures in
+    let m' : List ℕ = c.act.new.mem in
+    let x = reached_on (limits_of m) m m' (read_event bs) c.requires.reached p s.memory in
+    record { done = s; reached = reached_self (limits_of m) m' x; limits = reached_limits (limits_of m) m' x }

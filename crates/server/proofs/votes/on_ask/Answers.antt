@@ -1,38 +1,35 @@
-use mathlib.Core.Path.{_≡_, refl, sym, ap, _∙_}
-use mathlib.Core.List.{List}
-use Prim.Native.Nat.{ℕ}
-use lib.ListN.{length}
-use Rattle·servers.specs.Server.{Event, comes, ask-vote}
-use Rattle·state.specs.Held.{limits-of, state-of}
-use Rattle·server·specs.First.{first-of}
-use Rattle·server·specs.declared.first.First.{First}
-use Rattle·server·specs.declared.first.First.the-variants.{Vote}
-use Rattle·server·proofs.Answering.{Taken, taken, room-taken}
-use Rattle·server·proofs.votes.on_ask.Needs as need
+use Rattle.std.proofs.Common.{◌≡◌, ℕ, List, length, sym, refl, ap, ◌∙◌}
+use Rattle.servers.specs.Server.{Event, comes, ask_vote}
+use Rattle.state.specs.Held.{limits_of, state_of}
+use Rattle.server.specs.First.{first_of}
+use Rattle.server.specs.declared.first.First.{First}
+use Rattle.server.specs.declared.first.First.TheVariants.{Vote}
+use Rattle.server.proofs.Answering.{Taken, taken, room_taken}
+use Rattle.server.proofs.votes.on_ask.Goals as goal
 
-pub finish-requires : need.finish-requires
-finish-requires c κs =
-    let m : List ℕ = c .args .mem .now in
-    let m₁ : List ℕ = c .asked-for-vote-reply .last .mem in
-    let b = c .asked-for-vote-reply .ensures .state in
-    let v = c .asked-for-vote-reply .result in
-    let x : First = Vote (c .args .from) (v .term) (v .granted) in
-    let ev : Event = comes (c .args .from) (ask-vote (c .args .term) (c .args .last) (c .args .of)) in
-    let t : Taken (limits-of m) (state-of m) ev = record { free = c .pre .taken; goes-on = refl; told = refl } in
+pub finish-requires : goal.finish-requires
+finish-requires c =
+    let m : List ℕ = c.args.mem.now in
+    let m₁ : List ℕ = c.asked_for_vote-reply.new.mem in
+    let b = c.asked_for_vote-reply.ensures.state in
+    let v = c.asked_for_vote-reply.result in
+    let x : First = Vote c.args.from v.term v.granted in
+    let ev : Event = comes c.args.from (ask_vote c.args.term c.args.last c.args.of) in
+    let t : Taken (limits_of m) (state_of m) ev = record { free = c.requires.taken; goes_on = refl; told = refl } in
     record {
-      held = b .held;
-      room = room-taken m m₁ ev (first-of (limits-of m₁) (state-of m₁) x) (length (c .args .out .now)) t b
-          (sym (c .asked-for-vote-reply .ensures .reply)) (c .pre .room);
+      held = b.held;
+      room = room_taken m m₁ ev (first_of (limits_of m₁) (state_of m₁) x) (length c.args.out.now) t b
+          (sym c.asked_for_vote-reply.ensures.reply) c.requires.room;
     }
 
-pub returns : need.returns
+pub returns : goal.returns
 returns c =
-    let m : List ℕ = c .args .mem .now in
-    let m₁ : List ℕ = c .asked-for-vote-reply .last .mem in
-    let b = c .asked-for-vote-reply .ensures .state in
-    let v = c .asked-for-vote-reply .result in
-    let x : First = Vote (c .args .from) (v .term) (v .granted) in
-    let ev : Event = comes (c .args .from) (ask-vote (c .args .term) (c .args .last) (c .args .of)) in
-    let t : Taken (limits-of m) (state-of m) ev = record { free = c .pre .taken; goes-on = refl; told = refl } in
-    taken m m₁ (c .finish .last .mem) (c .args .out .now) (c .finish .last .out) ev (first-of (limits-of m₁) (state-of m₁) x)
-    (c .finish .result) t b (sym (c .asked-for-vote-reply .ensures .reply)) (c .finish .ensures)
+    let m : List ℕ = c.args.mem.now in
+    let m₁ : List ℕ = c.asked_for_vote-reply.new.mem in
+    let b = c.asked_for_vote-reply.ensures.state in
+    let v = c.asked_for_vote-reply.result in
+    let x : First = Vote c.args.from v.term v.granted in
+    let ev : Event = comes c.args.from (ask_vote c.args.term c.args.last c.args.of) in
+    let t : Taken (limits_of m) (state_of m) ev = record { free = c.requires.taken; goes_on = refl; told = refl } in
+    taken m m₁ c.finish.new.mem c.args.out.now c.finish.new.out ev (first_of (limits_of m₁) (state_of m₁) x)
+    c.finish.result t b (sym c.asked_for_vote-reply.ensures.reply) c.finish.ensures

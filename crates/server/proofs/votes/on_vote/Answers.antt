@@ -1,26 +1,23 @@
-use mathlib.Core.Path.{_≡_, refl}
-use mathlib.Core.List.{List, []}
-use Prim.Native.Nat.{ℕ}
-use lib.ListN.{length}
-use Rattle·servers.specs.Server.{Event, comes, vote}
-use Rattle·state.specs.Held.{limits-of, state-of}
-use Rattle·server·proofs.Answering.{Taken, taken, room-taken}
-use Rattle·server·proofs.votes.on_vote.Needs as need
+use Rattle.std.proofs.Common.{◌≡◌, ℕ, List, [], length, refl}
+use Rattle.servers.specs.Server.{Event, comes, vote}
+use Rattle.state.specs.Held.{limits_of, state_of}
+use Rattle.server.proofs.Answering.{Taken, taken, room_taken}
+use Rattle.server.proofs.votes.on_vote.Goals as goal
 
-pub finish-requires : need.finish-requires
-finish-requires c κs =
-    let m : List ℕ = c .args .mem .now in
-    let m₁ : List ℕ = c .vote-comes .last .mem in
-    let b = c .vote-comes .ensures in
-    let ev : Event = comes (c .args .from) (vote (c .args .term) (c .args .granted)) in
-    let t : Taken (limits-of m) (state-of m) ev = record { free = c .pre .taken; goes-on = refl; told = refl } in
-    record { held = b .held; room = room-taken m m₁ ev [] (length (c .args .out .now)) t b refl (c .pre .room) }
+pub finish-requires : goal.finish-requires
+finish-requires c =
+    let m : List ℕ = c.args.mem.now in
+    let m₁ : List ℕ = c.vote_comes.new.mem in
+    let b = c.vote_comes.ensures in
+    let ev : Event = comes c.args.from (vote c.args.term c.args.granted) in
+    let t : Taken (limits_of m) (state_of m) ev = record { free = c.requires.taken; goes_on = refl; told = refl } in
+    record { held = b.held; room = room_taken m m₁ ev [] (length c.args.out.now) t b refl c.requires.room }
 
-pub returns : need.returns
+pub returns : goal.returns
 returns c =
-    let m : List ℕ = c .args .mem .now in
-    let m₁ : List ℕ = c .vote-comes .last .mem in
-    let ev : Event = comes (c .args .from) (vote (c .args .term) (c .args .granted)) in
-    let t : Taken (limits-of m) (state-of m) ev = record { free = c .pre .taken; goes-on = refl; told = refl } in
-    taken m m₁ (c .finish .last .mem) (c .args .out .now) (c .finish .last .out) ev [] (c .finish .result) t (c .vote-comes .ensures) refl
-    (c .finish .ensures)
+    let m : List ℕ = c.args.mem.now in
+    let m₁ : List ℕ = c.vote_comes.new.mem in
+    let ev : Event = comes c.args.from (vote c.args.term c.args.granted) in
+    let t : Taken (limits_of m) (state_of m) ev = record { free = c.requires.taken; goes_on = refl; told = refl } in
+    taken m m₁ c.finish.new.mem c.args.out.now c.finish.new.out ev [] c.finish.result t c.vote_comes.ensures refl
+    c.finish.ensures

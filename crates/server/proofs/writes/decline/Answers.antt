@@ -1,19 +1,18 @@
-use native.Mathlib.Omega.{arith}
-use mathlib.Core.Path.{refl}
-use Rattle·apply.proofs.Sizes.{told-fits}
-use Rattle·server·proofs.Written.{begins-after}
-use Rattle·server·proofs.writes.decline.Needs as need
+use Rattle.std.proofs.Common.{refl, arith}
+use Rattle.apply.proofs.Sizes.{told_fits}
+use Rattle.server.proofs.Written.{begins_after}
+use Rattle.server.proofs.writes.decline.Goals as goal
 
-pub apply-all-requires : need.apply-all-requires
-apply-all-requires c κs =
-    let most = told-fits (c .args .mem .now) (c .pre .held) in
-    let room = c .pre .room in
-    record { held = c .pre .held; room = omega arith }
+pub apply_all-requires : goal.apply_all-requires
+apply_all-requires c =
+    let most = told_fits c.args.mem.now c.requires.held in
+    let room = c.requires.room in
+    record { held = c.requires.held; room = omega arith }
 
-pub returns : need.returns
+pub returns : goal.returns
 returns c =
     record {
-      state = c .apply-all .ensures .turns;
+      state = c.apply_all.ensures.turns;
       answer = refl;
-      bytes = begins-after (c .apply-all .ensures .bytes) (c .write-not-leader .ensures .bytes);
+      bytes = begins_after c.apply_all.ensures.bytes c.write_not_leader.ensures.bytes;
     }

@@ -1,39 +1,35 @@
-use mathlib.Core.Path.{_≡_, refl, sym, ap, _∙_}
-use mathlib.Core.Bool.{Bool, true, not}
-use mathlib.Core.List.{List, []}
-use Prim.Native.Nat.{ℕ}
-use lib.ListN.{length}
-use Rattle·servers.specs.Server.{Event, request, first-step}
-use Rattle·wire_read.specs.Means.{command-of}
-use Rattle·state.specs.Held.{limits-of, state-of, Becomes}
-use Rattle·entries.proofs.Given.{request-given}
-use Rattle·server·proofs.Answering.{Taken, taken, room-taken}
-use Rattle·server·proofs.Events.{request-step}
-use Rattle·server·proofs.writes.take_request.Needs as need
+use Rattle.std.proofs.Common.{◌≡◌, ℕ, Bool, true, not, List, [], length, sym, refl, ap, ◌∙◌}
+use Rattle.servers.specs.Server.{Event, request, first_step}
+use Rattle.wire_read.specs.Means.{command_of}
+use Rattle.state.specs.Held.{limits_of, state_of, Becomes}
+use Rattle.entries.proofs.Given.{request_given}
+use Rattle.server.proofs.Answering.{Taken, taken, room_taken}
+use Rattle.server.proofs.Events.{request_step}
+use Rattle.server.proofs.writes.take_request.Goals as goal
 
-pub request-requires : need.request-requires
-request-requires c κs =
-    let m : List ℕ = c .args .mem .now in
-    let x = command-of (c .args .b .now) (c .args .command) in
-    let g = request-given (limits-of m) (state-of m) (c .args .client) (c .args .id) x (c .pre .taken) (c .pre .readable) (c .pre .leads) in
-    record { held = c .pre .held; room = g .1; client = g .0; within = c .pre .within; good = g .2 }
+pub request-requires : goal.request-requires
+request-requires c =
+    let m : List ℕ = c.args.mem.now in
+    let x = command_of c.args.b.now c.args.command in
+    let g = request_given (limits_of m) (state_of m) c.args.client c.args.id x c.requires.taken c.requires.readable c.requires.leads in
+    record { held = c.requires.held; room = g.1; client = g.0; within = c.requires.within; good = g.2 }
 
-pub finish-requires : need.finish-requires
-finish-requires c κs =
-    let m : List ℕ = c .args .mem .now in
-    let m₁ : List ℕ = c .request .last .mem in
-    let x = command-of (c .args .b .now) (c .args .command) in
-    let ev : Event = request (c .args .client) (c .args .id) x in
-    let b = request-step m m₁ (c .args .client) (c .args .id) x (c .pre .leads) (c .request .ensures) in
-    let t : Taken (limits-of m) (state-of m) ev = record { free = c .pre .taken; goes-on = refl; told = ap not (c .pre .leads) } in
-    record { held = b .held; room = room-taken m m₁ ev [] (length (c .args .out .now)) t b refl (c .pre .room) }
+pub finish-requires : goal.finish-requires
+finish-requires c =
+    let m : List ℕ = c.args.mem.now in
+    let m₁ : List ℕ = c.request.new.mem in
+    let x = command_of c.args.b.now c.args.command in
+    let ev : Event = request c.args.client c.args.id x in
+    let b = request_step m m₁ c.args.client c.args.id x c.requires.leads c.request.ensures in
+    let t : Taken (limits_of m) (state_of m) ev = record { free = c.requires.taken; goes_on = refl; told = ap not c.requires.leads } in
+    record { held = b.held; room = room_taken m m₁ ev [] (length c.args.out.now) t b refl c.requires.room }
 
-pub returns : need.returns
+pub returns : goal.returns
 returns c =
-    let m : List ℕ = c .args .mem .now in
-    let m₁ : List ℕ = c .request .last .mem in
-    let x = command-of (c .args .b .now) (c .args .command) in
-    let ev : Event = request (c .args .client) (c .args .id) x in
-    let b = request-step m m₁ (c .args .client) (c .args .id) x (c .pre .leads) (c .request .ensures) in
-    let t : Taken (limits-of m) (state-of m) ev = record { free = c .pre .taken; goes-on = refl; told = ap not (c .pre .leads) } in
-    taken m m₁ (c .finish .last .mem) (c .args .out .now) (c .finish .last .out) ev [] (c .finish .result) t b refl (c .finish .ensures)
+    let m : List ℕ = c.args.mem.now in
+    let m₁ : List ℕ = c.request.new.mem in
+    let x = command_of c.args.b.now c.args.command in
+    let ev : Event = request c.args.client c.args.id x in
+    let b = request_step m m₁ c.args.client c.args.id x c.requires.leads c.request.ensures in
+    let t : Taken (limits_of m) (state_of m) ev = record { free = c.requires.taken; goes_on = refl; told = ap not c.requires.leads } in
+    taken m m₁ c.finish.new.mem c.args.out.now c.finish.new.out ev [] c.finish.result t b refl c.finish.ensures

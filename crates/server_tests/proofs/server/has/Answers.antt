@@ -1,17 +1,16 @@
-use mathlib.Core.List.{List}
-use Prim.Native.Nat.{ℕ}
-use Rattle·state.specs.Held.{limits-of}
-use Rattle·server.proofs.Reaching.{reached-held}
-use Rattle·apply.proofs.Doing.{region-held}
-use Rattle·server_tests·proofs.server.has.Needs as need
+use Rattle.std.proofs.Common.{ℕ, List}
+use Rattle.state.specs.Held.{limits_of}
+use Rattle.server.proofs.Reaching.{reached_held}
+use Rattle.apply.proofs.Doing.{region_held}
+use Rattle.server_tests.proofs.server.has.Goals as goal
 
-pub store-part-requires : need.store-part-requires
-store-part-requires c κs = let m : List ℕ = c .args .mem .now in record { held = reached-held (limits-of m) m (c .pre .live .reached) }
+pub store_part-requires : goal.store_part-requires
+store_part-requires c = let m : List ℕ = c.args.mem.now in record { held = reached_held (limits_of m) m c.requires.live.reached }
 
-pub look-up-requires : need.look-up-requires
-look-up-requires c κs =
-    let m : List ℕ = c .args .mem .now in
+pub look_up-requires : goal.look_up-requires
+look_up-requires c =
+    let m : List ℕ = c.args.mem.now in
     record {
-      held = region-held m (c .store-part .result .now) (reached-held (limits-of m) m (c .pre .live .reached)) (c .store-part .ensures);
-      name = c .pre .name;
+      held = region_held m c.store_part.result.now (reached_held (limits_of m) m c.requires.live.reached) c.store_part.ensures;
+      name = c.requires.name;
     }

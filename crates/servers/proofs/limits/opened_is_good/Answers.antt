@@ -1,5 +1,5 @@
-use Rattle·servers·proofs.limits.opened_is_good.Needs as need
-use Rattle·servers·proofs.Opening.{opened-is-good}
+use Rattle.servers.proofs.limits.opened_is_good.Goals as goal
+use Rattle.servers.proofs.Opening.{opened_is_good}
 
-pub returns : need.returns
-returns c = opened-is-good
+pub returns : goal.returns
+returns c = opened_is_good

@@ -1,24 +1,20 @@
-use native.Mathlib.Omega.{arith}
-use mathlib.Core.Path.{_≡_, refl, ap, _∙_}
-use mathlib.Core.List.{List}
-use Prim.Native.Nat.{ℕ, _+_, _-_}
-use lib.ListN.{length, take, drop}
-use Rattle·std.proofs.shelf.Lists.{length-drop, length-take-le}
-use Rattle·session·proofs.Records.{ran-one}
-use Rattle·session·proofs.run.run_one.Needs as need
+use Rattle.std.proofs.Common.{◌≡◌, ℕ, ◌+◌, ◌-◌, List, length, take, drop, refl, ap, ◌∙◌, arith}
+use Rattle.std.proofs.lemmas.List.{length-drop, length-take-le}
+use Rattle.session.proofs.Records.{ran_one}
+use Rattle.session.proofs.run.run_one.Goals as goal
 
-pub returns : need.returns
+pub returns : goal.returns
 returns c =
-    let rs : List ℕ = c .args .records .now in
-    let from : ℕ = c .args .event .at in
-    let size : (from + c .args .event .len) - from ≡ c .args .event .len = omega arith in
-    let xs : List ℕ = c .args .out .now in
-    let a : ℕ = c .args .at + 8 in
-    let room = c .pre .room in
+    let rs : List ℕ = c.args.records.now in
+    let from : ℕ = c.args.event.at in
+    let size : (from + c.args.event.len) - from ≡ c.args.event.len = omega arith in
+    let xs : List ℕ = c.args.out.now in
+    let a : ℕ = c.args.at + 8 in
+    let room = c.requires.room in
     let d = length-drop a xs in
     let t = length-take-le (length xs - a) (drop a xs) (omega arith) in
-    let s = c .step-answer .ensures .done in
-    let long = s .bytes .long in
-    ran-one {bs = take (c .args .event .len) (drop from rs)} {xs = xs} {at = c .args .at} {k = length xs - a}
-    (ap (λ (n : ℕ). take n (drop from rs)) size) s (omega arith) refl (omega arith) (c .answer-len-len .ensures)
-    (c .write-number .ensures .bytes) (c .step-answer .ensures .reached) (c .step-answer .ensures .limits)
+    let s = c.step-answer.ensures.done in
+    let long = s.bytes.long in
+    ran_one {bs = take c.args.event.len (drop from rs)} {xs = xs} {at = c.args.at} {k = length xs - a}
+    (ap (λ (n : ℕ). take n (drop from rs)) size) s (omega arith) refl (omega arith) c.answer_len-len.ensures
+    c.write_number.ensures.bytes c.step-answer.ensures.reached c.step-answer.ensures.limits

@@ -1,7 +1,7 @@
-use mathlib.Core.Path.{sym}
-use Rattle·servers.specs.Promise.{all}
-use Rattle·servers.proofs.Opening.{opened-is-good}
-use Rattle·shell·proofs.arguments.fitted.Needs as need
+use Rattle.std.proofs.Common.{sym}
+use Rattle.servers.specs.Promise.{all}
+use Rattle.servers.proofs.Opening.{opened_is_good}
+use Rattle.shell.proofs.arguments.fitted.Goals as goal
 
-pub returns-in-Ok : need.returns-in-Ok
-returns-in-Ok c = opened-is-good all (c .args .servers) (c .args .me) (c .args .clients) (c .args .room) _ (sym (c .in-Ok .ensures tt))
+pub returns-in-Ok : goal.returns-in-Ok
+returns-in-Ok c = opened_is_good all c.args.servers c.args.me c.args.clients c.args.room _ (sym c.in-Ok.ensures)

@@ -1,12 +1,8 @@
-use mathlib.Core.Path.{_∙_, ap}
-use mathlib.Core.List.{List}
-use Prim.Native.Nat.{ℕ, _+_}
-use native.Mathlib.Omega.{arith}
-use lib.ListN.{set, getD}
-use Rattle·shell·proofs.Moves.{moved-one}
-use Rattle·shell·proofs.feed.keep.Needs as need
+use Rattle.std.proofs.Common.{ℕ, ◌+◌, List, get_or, set, ap, ◌∙◌, arith}
+use Rattle.shell.proofs.Moves.{moved_one}
+use Rattle.shell.proofs.feed.keep.Goals as goal
 
-pub loop-i-again : need.loop-i-again
-loop-i-again c =
-    ap (λ (b : List ℕ). set b (c .loop-i .i) (getD b (c .args .from + c .loop-i .i) 0)) (c .loop-i .inv)
-    ∙ moved-one (c .args .buf .now) (c .args .from) (c .loop-i .i) (omega arith)
+pub loop-i-preserved : goal.loop-i-preserved
+loop-i-preserved c =
+    ap (λ (b : List ℕ). set b c.loop-i.i (get_or b (c.args.from + c.loop-i.i) 0)) c.loop-i.invariant
+    ∙ moved_one c.args.buf.now c.args.from c.loop-i.i (omega arith)

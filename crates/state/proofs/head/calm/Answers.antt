@@ -1,5 +1,5 @@
-use Rattle·state·proofs.head.calm.Needs as need
-use Rattle·state·proofs.HeadWords.{calm-written}
+use Rattle.state.proofs.head.calm.Goals as goal
+use Rattle.state.proofs.HeadWords.{calm_written}
 
-pub returns : need.returns
-returns c = calm-written (c .args .mem .now) (c .pre .held)
+pub returns : goal.returns
+returns c = calm_written c.args.mem.now c.requires.held

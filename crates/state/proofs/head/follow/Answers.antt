@@ -1,5 +1,5 @@
-use Rattle·state·proofs.head.follow.Needs as need
-use Rattle·state·proofs.HeadWords.{follow-written}
+use Rattle.state.proofs.head.follow.Goals as goal
+use Rattle.state.proofs.HeadWords.{follow_written}
 
-pub returns : need.returns
-returns c = follow-written (c .args .mem .now) (c .args .h) (c .pre .held) (c .pre .here)
+pub returns : goal.returns
+returns c = follow_written c.args.mem.now c.args.h c.requires.held c.requires.here

@@ -1,7 +1,7 @@
-use mathlib.Core.Path.{refl, sym}
-use Rattle·state·proofs.head.last_index.Needs as need
-use Rattle·state·proofs.Laws.{last-is, long-log}
+use Rattle.std.proofs.Common.{sym, refl}
+use Rattle.state.proofs.head.last_index.Goals as goal
+use Rattle.state.proofs.Laws.{last_is, long_log}
 
-pub returns : need.returns
+pub returns : goal.returns
 returns c =
-    record { word = refl; last = sym (last-is (c .args .mem .now)); low = long-log (c .args .mem .now) (c .pre .held) }
+    record { word = refl; last = sym (last_is c.args.mem.now); low = long_log c.args.mem.now c.requires.held }

@@ -1,6 +1,6 @@
-use native.Mathlib.Omega.{arith}
-use Rattle·state·proofs.head.lead.Needs as need
-use Rattle·state·proofs.HeadWords.{kind-written}
+use Rattle.std.proofs.Common.{arith}
+use Rattle.state.proofs.head.lead.Goals as goal
+use Rattle.state.proofs.HeadWords.{kind_written}
 
-pub returns : need.returns
-returns c = kind-written (c .args .mem .now) 2 (c .pre .held) (omega arith)
+pub returns : goal.returns
+returns c = kind_written c.args.mem.now 2 c.requires.held (omega arith)

@@ -1,5 +1,5 @@
-use Rattle·state·proofs.head.set_applied.Needs as need
-use Rattle·state·proofs.HeadWords.{applied-written}
+use Rattle.state.proofs.head.set_applied.Goals as goal
+use Rattle.state.proofs.HeadWords.{applied_written}
 
-pub returns : need.returns
-returns c = applied-written (c .args .mem .now) (c .args .a) (c .pre .held) (c .pre .more) (c .pre .low)
+pub returns : goal.returns
+returns c = applied_written c.args.mem.now c.args.a c.requires.held c.requires.more c.requires.low

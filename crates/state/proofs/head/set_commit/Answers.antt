@@ -1,5 +1,5 @@
-use Rattle·state·proofs.head.set_commit.Needs as need
-use Rattle·state·proofs.HeadWords.{commit-written}
+use Rattle.state.proofs.head.set_commit.Goals as goal
+use Rattle.state.proofs.HeadWords.{commit_written}
 
-pub returns : need.returns
-returns c = commit-written (c .args .mem .now) (c .args .c) (c .pre .held) (c .pre .low)
+pub returns : goal.returns
+returns c = commit_written c.args.mem.now c.args.c c.requires.held c.requires.low

@@ -1,13 +1,12 @@
-use mathlib.Core.Path.{_≡_, refl}
-use mathlib.Core.Bool.{Bool, true, false}
-use mir.Val.{boolByte}
-use Rattle·memory.specs.Words.{bit}
-use Rattle·state·proofs.head.set_send.Needs as need
-use Rattle·state·proofs.HeadWords.{send-written}
+use Rattle.std.proofs.Common.{◌≡◌, Bool, true, false, refl}
+use mir.Val.{bool_byte}
+use Rattle.memory.specs.Words.{bit}
+use Rattle.state.proofs.head.set_send.Goals as goal
+use Rattle.state.proofs.HeadWords.{send_written}
 
-byte-is : (b : Bool) → boolByte b ≡ bit b
-byte-is true = refl
-byte-is false = refl
+byte_is : (b : Bool) → bool_byte b ≡ bit b
+byte_is true = refl
+byte_is false = refl
 
-pub returns : need.returns
-returns c = send-written (c .args .mem .now) (c .args .send) (boolByte (c .args .send)) (c .pre .held) (byte-is (c .args .send))
+pub returns : goal.returns
+returns c = send_written c.args.mem.now c.args.send (bool_byte c.args.send) c.requires.held (byte_is c.args.send)

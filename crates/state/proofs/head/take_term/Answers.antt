@@ -1,5 +1,5 @@
-use Rattle·state·proofs.head.take_term.Needs as need
-use Rattle·state·proofs.HeadWords.{term-written}
+use Rattle.state.proofs.head.take_term.Goals as goal
+use Rattle.state.proofs.HeadWords.{term_written}
 
-pub returns : need.returns
-returns c = term-written (c .args .mem .now) (c .args .t) (c .pre .held) (c .pre .low)
+pub returns : goal.returns
+returns c = term_written c.args.mem.now c.args.t c.requires.held c.requires.low

@@ -1,5 +1,5 @@
-use Rattle·state·proofs.head.vote_for.Needs as need
-use Rattle·state·proofs.HeadWords.{vote-written}
+use Rattle.state.proofs.head.vote_for.Goals as goal
+use Rattle.state.proofs.HeadWords.{vote_written}
 
-pub returns : need.returns
-returns c = vote-written (c .args .mem .now) (c .args .h) (c .pre .held) (c .pre .here)
+pub returns : goal.returns
+returns c = vote_written c.args.mem.now c.args.h c.requires.held c.requires.here

@@ -1,6 +1,6 @@
-use native.Mathlib.Omega.{arith}
-use Rattle·state·proofs.parts.log_part.Needs as need
-use Rattle·state·proofs.Laws.{long}
+use Rattle.std.proofs.Common.{arith}
+use Rattle.state.proofs.parts.log_part.Goals as goal
+use Rattle.state.proofs.Laws.{long}
 
-pub part-result-end : need.part-result-end
-part-result-end c = let z = long (c .args .mem .now) (c .pre .held) in let at = c .log-at-at .ensures in omega arith
+pub slice_bounds-result-end : goal.slice_bounds-result-end
+slice_bounds-result-end c = let z = long c.args.mem.now c.requires.held in let at = c.log_at-at.ensures in omega arith

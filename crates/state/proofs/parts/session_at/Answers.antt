@@ -1,11 +1,10 @@
-use native.Mathlib.Omega.{arith}
-use mathlib.Core.Path.{_≡_}
-use Rattle·state·proofs.parts.session_at.Needs as need
-use Rattle·state·proofs.Laws.{long}
+use Rattle.std.proofs.Common.{◌≡◌, arith}
+use Rattle.state.proofs.parts.session_at.Goals as goal
+use Rattle.state.proofs.Laws.{long}
 
-pub returns : need.returns
+pub returns : goal.returns
 returns c =
-    let z = long (c .args .mem .now) (c .pre .held) in
-    let at = c .sessions-at .ensures in
-    let there = c .pre .there in
+    let z = long c.args.mem.now c.requires.held in
+    let at = c.sessions_at.ensures in
+    let there = c.requires.there in
     record { value = omega arith; end = omega arith }

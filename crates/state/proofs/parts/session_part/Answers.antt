@@ -1,13 +1,10 @@
-use native.Mathlib.Omega.{arith}
-use mathlib.Core.Path.{_≡_, ap, _∙_}
-use Prim.Native.Nat.{ℕ, _+_, _-_}
-use lib.ListN.{take, drop}
-use Rattle·state·proofs.parts.session_part.Needs as need
-use Rattle·state·proofs.Sessions.{session-held}
+use Rattle.std.proofs.Common.{◌≡◌, ℕ, ◌+◌, ◌-◌, take, drop, ap, ◌∙◌, arith}
+use Rattle.state.proofs.parts.session_part.Goals as goal
+use Rattle.state.proofs.Sessions.{session_held}
 
-pub returns : need.returns
+pub returns : goal.returns
 returns c =
-    let at : ℕ = c .session-at-at .result in
+    let at : ℕ = c.session_at-at.result in
     let k : at + 68 - at ≡ 68 = omega arith in
-    ap (λ (n : ℕ). take n (drop at (c .args .mem .now))) k
-    ∙ session-held (c .args .mem .now) (c .args .client) at (c .pre .held) (c .pre .there) (c .session-at-at .ensures .value)
+    ap (λ (n : ℕ). take n (drop at c.args.mem.now)) k
+    ∙ session_held c.args.mem.now c.args.client at c.requires.held c.requires.there c.session_at-at.ensures.value

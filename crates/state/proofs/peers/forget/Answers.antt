@@ -1,20 +1,17 @@
-use native.Mathlib.Omega.{arith}
-use mathlib.Core.Path.{_≡_, ap, _∙_}
-use Prim.Native.Nat.{ℕ, _+_, _-_, _*_}
-use lib.ListN.{length, drop, replicate}
-use Rattle·std.proofs.shelf.Lists.{length-take-le, length-drop}
-use Rattle·memory.specs.Layout.{servers-in}
-use Rattle·state·proofs.peers.forget.Needs as need
-use Rattle·state·proofs.Laws.{long}
-use Rattle·state·proofs.PeerWords.{none-written}
+use Rattle.std.proofs.Common.{◌≡◌, ℕ, ◌+◌, ◌-◌, ◌*◌, length, drop, replicate, ap, ◌∙◌, arith}
+use Rattle.std.proofs.lemmas.List.{length-take-le, length-drop}
+use Rattle.memory.specs.Layout.{servers_in}
+use Rattle.state.proofs.peers.forget.Goals as goal
+use Rattle.state.proofs.Laws.{long}
+use Rattle.state.proofs.PeerWords.{none_written}
 
-pub part-clear-end : need.part-clear-end
-part-clear-end c = let z = long (c .args .mem .now) (c .pre .held) in omega arith
+pub slice_bounds-clear-end : goal.slice_bounds-clear-end
+slice_bounds-clear-end c = let z = long c.args.mem.now c.requires.held in omega arith
 
-pub returns : need.returns
+pub returns : goal.returns
 returns c =
-    let z = long (c .args .mem .now) (c .pre .held) in
-    let k : ℕ = 14 + 2 * servers-in (c .args .mem .now) - 14 in
-    let d = length-drop 14 (c .args .mem .now) in
-    none-written (c .args .mem .now) (c .clear .last .part) k (c .pre .held) (omega arith)
-    (c .clear .ensures ∙ ap (λ (n : ℕ). replicate n 0) (length-take-le k (drop 14 (c .args .mem .now)) (omega arith)))
+    let z = long c.args.mem.now c.requires.held in
+    let k : ℕ = 14 + 2 * servers_in c.args.mem.now - 14 in
+    let d = length-drop 14 c.args.mem.now in
+    none_written c.args.mem.now c.clear.new.part k c.requires.held (omega arith)
+    (c.clear.ensures ∙ ap (λ (n : ℕ). replicate n 0) (length-take-le k (drop 14 c.args.mem.now) (omega arith)))

@@ -1,14 +1,12 @@
-use native.Mathlib.Omega.{arith}
-use mathlib.Core.Path.{ap}
-use lib.Bits.{bitOr}
-use lib.ListN.{getD}
-use Rattle·std.proofs.shelf.Bits.{one-shl}
-use Rattle·state·proofs.votes.add.Needs as need
-use Rattle·state·proofs.PeerWords.{ballot-written}
+use Rattle.std.proofs.Common.{get_or, ap, arith}
+use lib.Bits.{bit_or}
+use Rattle.std.proofs.lemmas.Nat.{one_shl}
+use Rattle.state.proofs.votes.add.Goals as goal
+use Rattle.state.proofs.PeerWords.{ballot_written}
 
-pub returns : need.returns
+pub returns : goal.returns
 returns c =
-    let few = c .pre .held .good .servers in
-    let here = c .pre .here in
-    ballot-written (c .args .mem .now) (c .args .h) _ (c .pre .held) (c .pre .here)
-    (ap (bitOr (getD (c .args .mem .now) 12 0)) (one-shl (c .args .h) 64 (omega arith)))
+    let few = c.requires.held.good.servers in
+    let here = c.requires.here in
+    ballot_written c.args.mem.now c.args.h _ c.requires.held c.requires.here
+    (ap (bit_or (get_or c.args.mem.now 12 0)) (one_shl c.args.h 64 (omega arith)))

@@ -1,18 +1,15 @@
-use mathlib.Core.Path.{_≡_, ap, _∙_}
-use Prim.Native.Nat.{ℕ, _/_}
-use lib.Dec.{ltb}
+use Rattle.std.proofs.Common.{◌≡◌, ℕ, ◌/◌, ltb, get_or, ap, ◌∙◌}
 use lib.Count.{ones}
-use lib.ListN.{getD}
-use Rattle·memory.specs.Layout.{servers-in}
-use Rattle·state·specs.Held.{state-of}
-use Rattle·servers.specs.declared.limits.Limits.{Limits}
-use Rattle·state·proofs.votes.has_won.Needs as need
-use Rattle·state·proofs.PeerWords.{votes-word}
-use Rattle·state·proofs.VoteBits.{ones-bits}
+use Rattle.memory.specs.Layout.{servers_in}
+use Rattle.state.specs.Held.{state_of}
+use Rattle.servers.specs.declared.limits.Limits.{Limits}
+use Rattle.state.proofs.votes.has_won.Goals as goal
+use Rattle.state.proofs.PeerWords.{votes_word}
+use Rattle.state.proofs.VoteBits.{ones_bits}
 
-pub returns : need.returns
+pub returns : goal.returns
 returns c =
-    c .is-majority .ensures
-    ∙ (ap (λ (l : Limits). ltb (l .servers / 2) (ones (getD (c .args .mem .now) 12 0))) (c .limits-all .ensures)
-    ∙ ap (ltb (servers-in (c .args .mem .now) / 2))
-    (ap ones (votes-word (c .args .mem .now) (c .pre .held)) ∙ ones-bits (state-of (c .args .mem .now) .votes)))
+    c.is_majority.ensures
+    ∙ (ap (λ (l : Limits). ltb (l.servers / 2) (ones (get_or c.args.mem.now 12 0))) c.limits-all.ensures
+    ∙ ap (ltb (servers_in c.args.mem.now / 2))
+    (ap ones (votes_word c.args.mem.now c.requires.held) ∙ ones_bits (state_of c.args.mem.now).votes))

@@ -1,14 +1,12 @@
-use mathlib.Core.Path.{_≡_, ap, subst}
-use Prim.Native.Nat.{ℕ}
-use mathlib.Core.List.{List}
-use Rattle·servers.specs.Store.{Command, get}
-use Rattle·store·specs.Calls.{Does}
-use Rattle·store·proofs.bytes.do_get.Needs as need
+use Rattle.std.proofs.Common.{◌≡◌, ℕ, List, ap, subst}
+use Rattle.servers.specs.Store.{Command, get}
+use Rattle.store.specs.Calls.{Does}
+use Rattle.store.proofs.bytes.do_get.Goals as goal
 
-pub do-get-requires : need.do-get-requires
-do-get-requires c κs = record { ready = c .pre .ready; name = c .name-words .ensures .words }
+pub do_get-requires : goal.do_get-requires
+do_get-requires c = record { ready = c.requires.ready; name = c.name_words.ensures.words }
 
-pub returns : need.returns
+pub returns : goal.returns
 returns c =
-    subst (λ (x : Command). Does x (c .args .region .now) (c .args .region .now) (c .do-get .last .after) (c .do-get .last .before))
-    (ap get (c .name-words .ensures .text)) (c .do-get .ensures)
+    subst (λ (x : Command). Does x c.args.region.now c.args.region.now c.do_get.new.after c.do_get.new.before)
+    (ap get c.name_words.ensures.text) c.do_get.ensures

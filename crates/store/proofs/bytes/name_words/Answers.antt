@@ -1,14 +1,13 @@
-use native.Mathlib.Omega.{arith}
-use mathlib.Core.Path.{_≡_, ap, _∙_}
-use Rattle·texts.specs.Words.{text-in}
-use Rattle·texts.proofs.Cells.{text-back}
-use Rattle·store·proofs.Writing.{of-text, all-bytes}
-use Rattle·store·proofs.bytes.name_words.Needs as need
+use Rattle.std.proofs.Common.{◌≡◌, ap, ◌∙◌, arith}
+use Rattle.texts.specs.Words.{text_in}
+use Rattle.texts.proofs.Cells.{text_back}
+use Rattle.store.proofs.Writing.{of_text, all_bytes}
+use Rattle.store.proofs.bytes.name_words.Goals as goal
 
-pub returns : need.returns
+pub returns : goal.returns
 returns c =
-    let b = all-bytes (c .args .name .now) (λ i. let f = c .typed .name i in omega arith) in
+    let b = all_bytes c.args.name.now (λ i. let f = c.type_inv.name i in omega arith) in
     record {
-      words = of-text 8 (c .write-text .last .row) (c .args .name .now) (c .write-text .ensures) (c .pre, b);
-      text = ap text-in (c .write-text .ensures) ∙ text-back 8 (c .args .name .now) (c .pre, b);
+      words = of_text 8 c.write_text.new.row c.args.name.now c.write_text.ensures (c.requires, b);
+      text = ap text_in c.write_text.ensures ∙ text_back 8 c.args.name.now (c.requires, b);
     }

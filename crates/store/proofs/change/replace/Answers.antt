@@ -1,21 +1,19 @@
-use native.Mathlib.Omega.{arith}
-use mathlib.Core.Path.{_≡_, refl, sym, _∙_, ap}
-use Prim.Native.Nat.{ℕ, _+_, _-_}
-use Rattle·texts.specs.Words.{text-in}
-use Rattle·store·proofs.Writing.{length-of-text, part-long, text-written}
-use Rattle·store·proofs.change.replace.Needs as need
+use Rattle.std.proofs.Common.{◌≡◌, ℕ, ◌+◌, ◌-◌, sym, refl, ap, ◌∙◌, arith}
+use Rattle.texts.specs.Words.{text_in}
+use Rattle.store.proofs.Writing.{length_of_text, part_long, text_written}
+use Rattle.store.proofs.change.replace.Goals as goal
 
-pub copy-text-requires : need.copy-text-requires
-copy-text-requires c κs =
-    let at : ℕ = c .row-at-at .result in
-    let e = c .row-at-at .ensures .end in
+pub copy_text-requires : goal.copy_text-requires
+copy_text-requires c =
+    let at : ℕ = c.row_at-at.result in
+    let e = c.row_at-at.ensures.end in
     record {
-      to = part-long (c .args .region .now) (at + 9) 33 (at + 42 - (at + 9)) (omega arith) (omega arith);
-      from = length-of-text 32 (c .args .text .now) (c .pre .text);
+      to = part_long c.args.region.now (at + 9) 33 (at + 42 - (at + 9)) (omega arith) (omega arith);
+      from = length_of_text 32 c.args.text.now c.requires.text;
     }
 
-pub returns : need.returns
+pub returns : goal.returns
 returns c =
-    let at : ℕ = c .row-at-at .result in
-    text-written (c .args .region .now) (c .copy-text .last .to) (text-in (c .args .text .now)) (c .args .p) at (at + 42 - (at + 9))
-    (c .pre .held) (c .pre .within) (c .row-at-at .ensures .value) (omega arith) (c .copy-text .ensures ∙ c .pre .text .is)
+    let at : ℕ = c.row_at-at.result in
+    text_written c.args.region.now c.copy_text.new.to (text_in c.args.text.now) c.args.p at (at + 42 - (at + 9))
+    c.requires.held c.requires.within c.row_at-at.ensures.value (omega arith) (c.copy_text.ensures ∙ c.requires.text.is)

@@ -1,45 +1,45 @@
-use native.Mathlib.Omega.{arith}
-use Rattle·store·proofs.CommandParts.{command-long, command-name, command-expects, command-text}
-use Rattle·store·proofs.commands.do_command.Needs as need
+use Rattle.std.proofs.Common.{arith}
+use Rattle.store.proofs.CommandParts.{command_long, command_name, command_expects, command_text}
+use Rattle.store.proofs.commands.do_command.Goals as goal
 
-pub part-name-end : need.part-name-end
-part-name-end c = let l = command-long (c .args .command .now) (c .pre .command) in omega arith
+pub slice_bounds-name-end : goal.slice_bounds-name-end
+slice_bounds-name-end c = let l = command_long c.args.command.now c.requires.command in omega arith
 
-pub part-expected-end : need.part-expected-end
-part-expected-end c = let l = command-long (c .args .command .now) (c .pre .command) in omega arith
+pub slice_bounds-expected-end : goal.slice_bounds-expected-end
+slice_bounds-expected-end c = let l = command_long c.args.command.now c.requires.command in omega arith
 
-pub part-text-end : need.part-text-end
-part-text-end c = let l = command-long (c .args .command .now) (c .pre .command) in omega arith
+pub slice_bounds-text-end : goal.slice_bounds-text-end
+slice_bounds-text-end c = let l = command_long c.args.command.now c.requires.command in omega arith
 
-pub do-get-requires : need.do-get-requires
-do-get-requires c κs = record { ready = c .pre .ready; name = command-name (c .args .command .now) (c .pre .command) }
+pub do_get-requires : goal.do_get-requires
+do_get-requires c = record { ready = c.requires.ready; name = command_name c.args.command.now c.requires.command }
 
-pub do-put-requires : need.do-put-requires
-do-put-requires c κs =
+pub do_put-requires : goal.do_put-requires
+do_put-requires c =
     record {
-      ready = c .pre .ready;
-      room = c .pre .room;
-      name = command-name (c .args .command .now) (c .pre .command);
-      text = command-text (c .args .command .now) (c .pre .command);
+      ready = c.requires.ready;
+      room = c.requires.room;
+      name = command_name c.args.command.now c.requires.command;
+      text = command_text c.args.command.now c.requires.command;
     }
 
-pub do-remove-requires : need.do-remove-requires
-do-remove-requires c κs = record { ready = c .pre .ready; name = command-name (c .args .command .now) (c .pre .command) }
+pub do_remove-requires : goal.do_remove-requires
+do_remove-requires c = record { ready = c.requires.ready; name = command_name c.args.command.now c.requires.command }
 
-pub do-swap-requires : need.do-swap-requires
-do-swap-requires c κs =
+pub do_swap-requires : goal.do_swap-requires
+do_swap-requires c =
     record {
-      ready = c .pre .ready;
-      room = c .pre .room;
-      name = command-name (c .args .command .now) (c .pre .command);
-      expected = command-expects (c .args .command .now) (c .pre .command);
-      text = command-text (c .args .command .now) (c .pre .command);
+      ready = c.requires.ready;
+      room = c.requires.room;
+      name = command_name c.args.command.now c.requires.command;
+      expected = command_expects c.args.command.now c.requires.command;
+      text = command_text c.args.command.now c.requires.command;
     }
 
-pub do-drop-if-requires : need.do-drop-if-requires
-do-drop-if-requires c κs =
+pub do_drop_if-requires : goal.do_drop_if-requires
+do_drop_if-requires c =
     record {
-      ready = c .pre .ready;
-      name = command-name (c .args .command .now) (c .pre .command);
-      text = command-text (c .args .command .now) (c .pre .command);
+      ready = c.requires.ready;
+      name = command_name c.args.command.now c.requires.command;
+      text = command_text c.args.command.now c.requires.command;
     }

@@ -1,42 +1,39 @@
-use mathlib.Core.Path.{_≡_, refl, sym, _∙_}
-use mathlib.Core.Bool.{true, false}
-use mathlib.Core.List.{List, [], _∷_}
-use Prim.Native.Nat.{ℕ}
-use Rattle·servers.specs.Store.{look, same-perhaps}
-use Rattle·texts.specs.Words.{text-in}
-use Rattle·store·specs.Region.{items-of}
-use Rattle·store·proofs.Doing.{did-drop, not-drop, kept-remove, tests-same, look-good, spot-in, removed-do}
-use Rattle·store·proofs.commands.do_drop_if.Needs as need
+use Rattle.std.proofs.Common.{◌≡◌, ℕ, true, false, List, [], ◌∷◌, sym, refl, ◌∙◌}
+use Rattle.servers.specs.Store.{look, same_perhaps}
+use Rattle.texts.specs.Words.{text_in}
+use Rattle.store.specs.Region.{items_of}
+use Rattle.store.proofs.Doing.{did_drop, not_drop, kept_remove, tests_same, look_good, spot_in, removed_do}
+use Rattle.store.proofs.commands.do_drop_if.Goals as goal
 
-pub remove-item-requires : need.remove-item-requires
-remove-item-requires c κs =
+pub remove_item-requires : goal.remove_item-requires
+remove_item-requires c =
     record {
-      held = c .pre .ready .held;
-      within = spot-in (text-in (c .args .name .now)) (c .args .region .now) (c .find-before-spot .result .at)
-          (c .find-before-spot .result .there)
-          (c .pre .ready .held) (c .find-before-spot .ensures .spot);
+      held = c.requires.ready.held;
+      within = spot_in (text_in c.args.name.now) c.args.region.now c.find_before-spot.result.at
+          c.find_before-spot.result.there
+          c.requires.ready.held c.find_before-spot.ensures.spot;
     }
 
-pub returns-then-same : need.returns-then-same
+pub returns-then-same : goal.returns-then-same
 returns-then-same c =
-    let k : List ℕ = text-in (c .args .name .now) in
-    let v : List ℕ = text-in (c .args .text .now) in
-    let r : List ℕ = c .args .region .now in
-    let e = tests-same (look k (items-of r)) (v ∷ []) (c .find-before-spot .last .before) (c .tell-text .last .out)
-    (c .find-before-spot .ensures .told) (c .tell-text .ensures) (look-good k r (c .pre .ready .held)) (c .pre .text .fits, refl) in
-    let f = c .remove-item .ensures
-    ∙ removed-do k r (c .find-before-spot .result .at) (c .find-before-spot .result .there) (c .find-before-spot .ensures .spot) in
-    did-drop k v r (c .remove-item .last .region) (c .tell-none .last .out) (c .find-before-spot .last .before)
-    (kept-remove k r (c .remove-item .last .region) (c .pre .ready .held) f) (c .find-before-spot .ensures .told)
-    (sym e ∙ sym (c .if-same .ensures tt)) f (c .tell-none .ensures)
+    let k : List ℕ = text_in c.args.name.now in
+    let v : List ℕ = text_in c.args.text.now in
+    let r : List ℕ = c.args.region.now in
+    let e = tests_same (look k (items_of r)) (v ∷ []) c.find_before-spot.new.before c.tell_text.new.out
+    c.find_before-spot.ensures.told c.tell_text.ensures (look_good k r c.requires.ready.held) (c.requires.text.fits, refl) in
+    let f = c.remove_item.ensures
+    ∙ removed_do k r c.find_before-spot.result.at c.find_before-spot.result.there c.find_before-spot.ensures.spot in
+    did_drop k v r c.remove_item.new.region c.tell_none.new.out c.find_before-spot.new.before
+    (kept_remove k r c.remove_item.new.region c.requires.ready.held f) c.find_before-spot.ensures.told
+    (sym e ∙ sym c.if-same.ensures) f c.tell_none.ensures
 
-pub returns-else-same : need.returns-else-same
+pub returns-else-same : goal.returns-else-same
 returns-else-same c =
-    let k : List ℕ = text-in (c .args .name .now) in
-    let v : List ℕ = text-in (c .args .text .now) in
-    let r : List ℕ = c .args .region .now in
-    let e = tests-same (look k (items-of r)) (v ∷ []) (c .find-before-spot .last .before) (c .tell-text .last .out)
-    (c .find-before-spot .ensures .told) (c .tell-text .ensures) (look-good k r (c .pre .ready .held)) (c .pre .text .fits, refl) in
-    not-drop k v r (c .copy-from-slice .last .self) (c .find-before-spot .last .before) (c .pre .ready .held)
-    (c .find-before-spot .ensures .told)
-    (sym e ∙ sym (c .if-same .ensures tt)) (c .copy-from-slice .ensures .after)
+    let k : List ℕ = text_in c.args.name.now in
+    let v : List ℕ = text_in c.args.text.now in
+    let r : List ℕ = c.args.region.now in
+    let e = tests_same (look k (items_of r)) (v ∷ []) c.find_before-spot.new.before c.tell_text.new.out
+    c.find_before-spot.ensures.told c.tell_text.ensures (look_good k r c.requires.ready.held) (c.requires.text.fits, refl) in
+    not_drop k v r c.copy_from_slice.new.self c.find_before-spot.new.before c.requires.ready.held
+    c.find_before-spot.ensures.told
+    (sym e ∙ sym c.if-same.ensures) c.copy_from_slice.ensures.after

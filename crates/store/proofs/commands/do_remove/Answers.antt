@@ -1,24 +1,22 @@
-use mathlib.Core.Path.{_∙_}
-use mathlib.Core.List.{List}
-use Prim.Native.Nat.{ℕ}
-use Rattle·texts.specs.Words.{text-in}
-use Rattle·store·proofs.Doing.{did-remove, kept-remove, spot-in, removed-do}
-use Rattle·store·proofs.commands.do_remove.Needs as need
+use Rattle.std.proofs.Common.{ℕ, List, ◌∙◌}
+use Rattle.texts.specs.Words.{text_in}
+use Rattle.store.proofs.Doing.{did_remove, kept_remove, spot_in, removed_do}
+use Rattle.store.proofs.commands.do_remove.Goals as goal
 
-pub remove-item-requires : need.remove-item-requires
-remove-item-requires c κs =
+pub remove_item-requires : goal.remove_item-requires
+remove_item-requires c =
     record {
-      held = c .pre .ready .held;
-      within = spot-in (text-in (c .args .name .now)) (c .args .region .now) (c .find-before-spot .result .at)
-          (c .find-before-spot .result .there)
-          (c .pre .ready .held) (c .find-before-spot .ensures .spot);
+      held = c.requires.ready.held;
+      within = spot_in (text_in c.args.name.now) c.args.region.now c.find_before-spot.result.at
+          c.find_before-spot.result.there
+          c.requires.ready.held c.find_before-spot.ensures.spot;
     }
 
-pub returns : need.returns
+pub returns : goal.returns
 returns c =
-    let k : List ℕ = text-in (c .args .name .now) in
-    let r : List ℕ = c .args .region .now in
-    let f = c .remove-item .ensures
-    ∙ removed-do k r (c .find-before-spot .result .at) (c .find-before-spot .result .there) (c .find-before-spot .ensures .spot) in
-    did-remove k r (c .remove-item .last .region) (c .tell-none .last .out) (c .find-before-spot .last .before)
-    (kept-remove k r (c .remove-item .last .region) (c .pre .ready .held) f) (c .find-before-spot .ensures .told) f (c .tell-none .ensures)
+    let k : List ℕ = text_in c.args.name.now in
+    let r : List ℕ = c.args.region.now in
+    let f = c.remove_item.ensures
+    ∙ removed_do k r c.find_before-spot.result.at c.find_before-spot.result.there c.find_before-spot.ensures.spot in
+    did_remove k r c.remove_item.new.region c.tell_none.new.out c.find_before-spot.new.before
+    (kept_remove k r c.remove_item.new.region c.requires.ready.held f) c.find_before-spot.ensures.told f c.tell_none.ensures

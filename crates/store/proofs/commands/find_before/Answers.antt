@@ -1,25 +1,25 @@
-use mathlib.Core.Path.{_≡_, ap, _∙_}
-use Rattle·texts.specs.Words.{text-in, perhaps-words}
-use Rattle·store·proofs.Doing.{spot-in, spot-look}
-use Rattle·store·proofs.commands.find_before.Needs as need
+use Rattle.std.proofs.Common.{◌≡◌, ap, ◌∙◌}
+use Rattle.texts.specs.Words.{text_in, perhaps_words}
+use Rattle.store.proofs.Doing.{spot_in, spot_look}
+use Rattle.store.proofs.commands.find_before.Goals as goal
 
-pub tell-requires : need.tell-requires
-tell-requires c κs =
+pub tell-requires : goal.tell-requires
+tell-requires c =
     record {
-      held = c .pre .held;
-      within = spot-in (text-in (c .args .name .now)) (c .args .region .now) (c .find-spot .result .at) (c .find-spot .result .there)
-          (c .pre .held)
-          (c .find-spot .ensures);
-      wide = c .pre .wide;
+      held = c.requires.held;
+      within = spot_in (text_in c.args.name.now) c.args.region.now c.find-spot.result.at c.find-spot.result.there
+          c.requires.held
+          c.find-spot.ensures;
+      wide = c.requires.wide;
     }
 
-pub returns : need.returns
+pub returns : goal.returns
 returns c =
     record {
-      spot = c .find-spot .ensures;
-      told = c .tell .ensures
-          ∙ ap (perhaps-words 32)
-          (spot-look (text-in (c .args .name .now)) (c .args .region .now) (c .find-spot .result .at) (c .find-spot .result .there)
-          (c .pre .held)
-          (c .find-spot .ensures));
+      spot = c.find-spot.ensures;
+      told = c.tell.ensures
+          ∙ ap (perhaps_words 32)
+          (spot_look (text_in c.args.name.now) c.args.region.now c.find-spot.result.at c.find-spot.result.there
+          c.requires.held
+          c.find-spot.ensures);
     }

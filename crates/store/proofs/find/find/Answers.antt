@@ -1,19 +1,19 @@
-use Rattle·texts.specs.Words.{text-in}
-use Rattle·store·proofs.Reading.{spot-within, spot-past}
-use Rattle·store·proofs.find.find.Needs as need
+use Rattle.texts.specs.Words.{text_in}
+use Rattle.store.proofs.Reading.{spot_within, spot_past}
+use Rattle.store.proofs.find.find.Goals as goal
 
-pub returns-then-at-count : need.returns-then-at-count
+pub returns-then-at-count : goal.returns-then-at-count
 returns-then-at-count c =
     record {
-      at = c .lower-bound-at .ensures;
-      there = spot-within (text-in (c .args .name .now)) (c .args .region .now) (c .lower-bound-at .result) (c .same-at-there .result)
-          (c .pre .held) (c .lower-bound-at .ensures) (c .if-at-count .taken) (c .same-at-there .ensures);
+      at = c.lower_bound-at.ensures;
+      there = spot_within (text_in c.args.name.now) c.args.region.now c.lower_bound-at.result c.same_at-there.result
+          c.requires.held c.lower_bound-at.ensures c.if-at-count.true c.same_at-there.ensures;
     }
 
-pub returns-else-at-count : need.returns-else-at-count
+pub returns-else-at-count : goal.returns-else-at-count
 returns-else-at-count c =
     record {
-      at = c .lower-bound-at .ensures;
-      there = spot-past (text-in (c .args .name .now)) (c .args .region .now) (c .lower-bound-at .result) (c .pre .held)
-          (c .lower-bound-at .ensures) (c .if-at-count .left);
+      at = c.lower_bound-at.ensures;
+      there = spot_past (text_in c.args.name.now) c.args.region.now c.lower_bound-at.result c.requires.held
+          c.lower_bound-at.ensures c.if-at-count.false;
     }

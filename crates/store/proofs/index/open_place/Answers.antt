@@ -1,22 +1,19 @@
-use native.Mathlib.Omega.{arith}
-use mathlib.Core.Path.{_≡_, refl, sym, _∙_, ap}
-use Prim.Native.Nat.{ℕ, _+_, _-_}
-use lib.ListN.{length, getD, set}
-use Rattle·store·proofs.Shifts.{right-none, right-more, right-all}
-use Rattle·store·proofs.index.open_place.Needs as need
+use Rattle.std.proofs.Common.{◌≡◌, ℕ, ◌+◌, ◌-◌, length, get_or, set, sym, refl, ap, ◌∙◌, arith}
+use Rattle.store.proofs.Shifts.{right_none, right_more, right_all}
+use Rattle.store.proofs.index.open_place.Goals as goal
 
-pub loop-i-holds : need.loop-i-holds
-loop-i-holds c = (omega arith, omega arith, right-none (c .args .c) (c .args .index .now))
+pub loop-i-init : goal.loop-i-init
+loop-i-init c = (omega arith, omega arith, right_none c.args.c c.args.index.now)
 
-pub loop-i-again : need.loop-i-again
-loop-i-again c = (
+pub loop-i-preserved : goal.loop-i-preserved
+loop-i-preserved c = (
   omega arith,
   omega arith,
-  right-more (c .loop-i .i) (c .args .c) (c .args .index .now) (c .loop-i .index) (omega arith) (omega arith) (omega arith)
-      (c .loop-i .inv .2),
+  right_more c.loop-i.i c.args.c c.args.index.now c.loop-i.index (omega arith) (omega arith) (omega arith)
+      c.loop-i.invariant.2,
 )
 
-pub returns : need.returns
+pub returns : goal.returns
 returns c =
-    let i : c .loop-i .i ≡ c .args .p = omega arith in
-    right-all (c .args .p) (c .args .c) (c .args .index .now) (c .loop-i .index) (omega arith) (omega arith) (rw i at (c .loop-i .inv .2))
+    let i : c.loop-i.i ≡ c.args.p = omega arith in
+    right_all c.args.p c.args.c c.args.index.now c.loop-i.index (omega arith) (omega arith) (rw i at c.loop-i.invariant.2)

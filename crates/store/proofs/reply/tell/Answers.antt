@@ -1,31 +1,27 @@
-use native.Mathlib.Omega.{arith}
-use mathlib.Core.Path.{_≡_, refl, sym, _∙_, ap}
-use mathlib.Core.Bool.{Bool}
-use mathlib.Core.List.{List, [], _∷_}
-use Prim.Native.Nat.{ℕ}
-use Rattle·texts.specs.Words.{text-in, perhaps-words}
-use Rattle·texts.proofs.Cells.{text-back}
-use Rattle·store·specs.Calls.{text-there}
-use Rattle·store·specs.Region.{items-of}
-use Rattle·store·proofs.Reading.{Nth, nth-good}
-use Rattle·store·proofs.Writing.{of-text}
-use Rattle·store·proofs.reply.tell.Needs as need
+use Rattle.std.proofs.Common.{◌≡◌, ℕ, Bool, List, [], ◌∷◌, sym, refl, ap, ◌∙◌, arith}
+use Rattle.texts.specs.Words.{text_in, perhaps_words}
+use Rattle.texts.proofs.Cells.{text_back}
+use Rattle.store.specs.Calls.{text_there}
+use Rattle.store.specs.Region.{items_of}
+use Rattle.store.proofs.Reading.{Nth, nth_good}
+use Rattle.store.proofs.Writing.{of_text}
+use Rattle.store.proofs.reply.tell.Goals as goal
 
-pub tell-text-requires : need.tell-text-requires
-tell-text-requires c κs =
-    let w = c .pre .within (c .if-spot .taken) in
+pub tell_text-requires : goal.tell_text-requires
+tell_text-requires c =
+    let w = c.requires.within c.if-spot.true in
     record {
-      wide = c .pre .wide;
-      text = of-text 32 (c .text-at .result .now) (Nth (c .args .region .now) (c .args .spot .at) .value) (c .text-at .ensures)
-          (nth-good (c .args .region .now) (c .args .spot .at) (c .pre .held) w .1);
+      wide = c.requires.wide;
+      text = of_text 32 c.text_at.result.now (Nth c.args.region.now c.args.spot.at).value c.text_at.ensures
+          (nth_good c.args.region.now c.args.spot.at c.requires.held w).1;
     }
 
-pub returns-then-spot : need.returns-then-spot
+pub returns-then-spot : goal.returns-then-spot
 returns-then-spot c =
-    let w = c .pre .within (c .if-spot .taken) in
-    let v : List ℕ = Nth (c .args .region .now) (c .args .spot .at) .value in
-    let b : text-in (c .text-at .result .now) ≡ v =
-    ap text-in (c .text-at .ensures) ∙ text-back 32 v (nth-good (c .args .region .now) (c .args .spot .at) (c .pre .held) w .1) in
-    c .tell-text .ensures
-    ∙ (ap (λ (t : List ℕ). perhaps-words 32 (t ∷ [])) b
-    ∙ ap (λ (t : Bool). perhaps-words 32 (text-there t (c .args .spot .at) (items-of (c .args .region .now)))) (sym (c .if-spot .taken)))
+    let w = c.requires.within c.if-spot.true in
+    let v : List ℕ = (Nth c.args.region.now c.args.spot.at).value in
+    let b : text_in c.text_at.result.now ≡ v =
+    ap text_in c.text_at.ensures ∙ text_back 32 v (nth_good c.args.region.now c.args.spot.at c.requires.held w).1 in
+    c.tell_text.ensures
+    ∙ (ap (λ (t : List ℕ). perhaps_words 32 (t ∷ [])) b
+    ∙ ap (λ (t : Bool). perhaps_words 32 (text_there t c.args.spot.at (items_of c.args.region.now))) (sym c.if-spot.true))

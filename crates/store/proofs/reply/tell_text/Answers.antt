@@ -1,5 +1,5 @@
-use Rattle·store·proofs.Writing.{length-of-text}
-use Rattle·store·proofs.reply.tell_text.Needs as need
+use Rattle.store.proofs.Writing.{length_of_text}
+use Rattle.store.proofs.reply.tell_text.Goals as goal
 
-pub copy-text-requires : need.copy-text-requires
-copy-text-requires c κs = record { to = c .pre .wide; from = length-of-text 32 (c .args .text .now) (c .pre .text) }
+pub copy_text-requires : goal.copy_text-requires
+copy_text-requires c = record { to = c.requires.wide; from = length_of_text 32 c.args.text.now c.requires.text }

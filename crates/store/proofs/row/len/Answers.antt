@@ -1,7 +1,7 @@
-use mathlib.Core.Path.{_≡_, sym}
-use Rattle·store·specs.Region.{capacity}
-use Rattle·store·proofs.Regions.{items-count}
-use Rattle·store·proofs.row.len.Needs as need
+use Rattle.std.proofs.Common.{◌≡◌, sym}
+use Rattle.store.specs.Region.{capacity}
+use Rattle.store.proofs.Regions.{items_count}
+use Rattle.store.proofs.row.len.Goals as goal
 
-pub returns : need.returns
-returns c = sym (items-count (capacity (c .args .region .now)) (c .args .region .now) (c .pre .held))
+pub returns : goal.returns
+returns c = sym (items_count (capacity c.args.region.now) c.args.region.now c.requires.held)

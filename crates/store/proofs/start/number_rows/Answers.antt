@@ -1,23 +1,21 @@
-use native.Mathlib.Omega.{arith}
-use mathlib.Core.Path.{_≡_, refl, sym, _∙_, ap}
-use lib.ListN.{length}
-use Rattle·std.proofs.shelf.Lists.{take-more-set, take-all}
-use Rattle·store·specs.Region.{numbers}
-use Rattle·store·proofs.RowNumbers.{numbers-more}
-use Rattle·store·proofs.start.number_rows.Needs as need
+use Rattle.std.proofs.Common.{◌≡◌, length, sym, refl, ap, ◌∙◌, arith}
+use Rattle.std.proofs.lemmas.List.{take_more_set, take_all}
+use Rattle.store.specs.Region.{numbers}
+use Rattle.store.proofs.RowNumbers.{numbers_more}
+use Rattle.store.proofs.start.number_rows.Goals as goal
 
-pub loop-i-holds : need.loop-i-holds
+pub loop-i-init : goal.loop-i-init
 unfolding numbers
-loop-i-holds c = refl
+loop-i-init c = refl
 
-pub loop-i-again : need.loop-i-again
-loop-i-again c =
-    let a = take-more-set (c .loop-i .index) (c .loop-i .i) (c .loop-i .i) (omega arith) in
-    let b = numbers-more 0 (c .loop-i .i) (c .loop-i .i) (omega arith) in
+pub loop-i-preserved : goal.loop-i-preserved
+loop-i-preserved c =
+    let a = take_more_set c.loop-i.index c.loop-i.i c.loop-i.i (omega arith) in
+    let b = numbers_more 0 c.loop-i.i c.loop-i.i (omega arith) in
     cc
 
-pub returns : need.returns
+pub returns : goal.returns
 returns c =
-    let i : c .loop-i .i ≡ length (c .args .index .now) = omega arith in
-    let a = take-all (c .loop-i .i) (c .loop-i .index) (omega arith) in
+    let i : c.loop-i.i ≡ length c.args.index.now = omega arith in
+    let a = take_all c.loop-i.i c.loop-i.index (omega arith) in
     cc

@@ -1,38 +1,33 @@
-use native.Mathlib.Omega.{arith}
-use mathlib.Core.Path.{_≡_, refl, sym, _∙_, ap}
-use Prim.Native.Nat.{ℕ, _<_, _+_}
-use mathlib.Core.Bool.{Bool}
-use lib.Dec.{ltb}
-use lib.ListN.{length, getD, drop}
-use Rattle·std.proofs.shelf.Tests.{lt-ltb, le-ltb}
-use Rattle·texts·proofs.Parts.{less-cells-tell, less-cells-next, less-cells-end}
-use Rattle·texts·proofs.compare.less.Needs as need
+use Rattle.std.proofs.Common.{◌≡◌, ℕ, ◌+◌, ◌<◌, Bool, ltb, length, get_or, drop, sym, refl, ap, ◌∙◌, arith}
+use Rattle.std.proofs.lemmas.Bool.{lt-ltb, le-ltb}
+use Rattle.texts.proofs.Parts.{less_cells_tell, less_cells_next, less_cells_end}
+use Rattle.texts.proofs.compare.less.Goals as goal
 
-pub returns-then-a-i : need.returns-then-a-i
+pub returns-then-a-i : goal.returns-then-a-i
 returns-then-a-i c =
-    let e : Bool = ltb (getD (c .args .a .now) 0 0) (getD (c .args .b .now) 0 0) in
-    let before = c .if-a-i .taken in
-    sym (lt-ltb (getD (c .args .a .now) (c .loop-i .i) 0) (getD (c .args .b .now) (c .loop-i .i) 0) before)
-    ∙ (sym (less-cells-tell (c .args .a .now) (c .args .b .now) (c .loop-i .i) e (omega arith) (omega arith) (λ q. omega arith))
-    ∙ c .loop-i .inv)
+    let e : Bool = ltb (get_or c.args.a.now 0 0) (get_or c.args.b.now 0 0) in
+    let before = c.if-a-i.true in
+    sym (lt-ltb (get_or c.args.a.now c.loop-i.i 0) (get_or c.args.b.now c.loop-i.i 0) before)
+    ∙ (sym (less_cells_tell c.args.a.now c.args.b.now c.loop-i.i e (omega arith) (omega arith) (λ q. omega arith))
+    ∙ c.loop-i.invariant)
 
-pub returns-then-b-i : need.returns-then-b-i
+pub returns-then-b-i : goal.returns-then-b-i
 returns-then-b-i c =
-    let e : Bool = ltb (getD (c .args .a .now) 0 0) (getD (c .args .b .now) 0 0) in
-    let after = c .if-b-i .taken in
-    sym (le-ltb (getD (c .args .a .now) (c .loop-i .i) 0) (getD (c .args .b .now) (c .loop-i .i) 0) (omega arith))
-    ∙ (sym (less-cells-tell (c .args .a .now) (c .args .b .now) (c .loop-i .i) e (omega arith) (omega arith) (λ q. omega arith))
-    ∙ c .loop-i .inv)
+    let e : Bool = ltb (get_or c.args.a.now 0 0) (get_or c.args.b.now 0 0) in
+    let after = c.if-b-i.true in
+    sym (le-ltb (get_or c.args.a.now c.loop-i.i 0) (get_or c.args.b.now c.loop-i.i 0) (omega arith))
+    ∙ (sym (less_cells_tell c.args.a.now c.args.b.now c.loop-i.i e (omega arith) (omega arith) (λ q. omega arith))
+    ∙ c.loop-i.invariant)
 
-pub loop-i-again : need.loop-i-again
-loop-i-again c =
-    let e : Bool = ltb (getD (c .args .a .now) 0 0) (getD (c .args .b .now) 0 0) in
-    let not-before = c .if-a-i .left in
-    let not-after = c .if-b-i .left in
-    sym (less-cells-next (c .args .a .now) (c .args .b .now) (c .loop-i .i) e (omega arith) (omega arith) (omega arith))
-    ∙ c .loop-i .inv
+pub loop-i-preserved : goal.loop-i-preserved
+loop-i-preserved c =
+    let e : Bool = ltb (get_or c.args.a.now 0 0) (get_or c.args.b.now 0 0) in
+    let not_before = c.if-a-i.false in
+    let not_after = c.if-b-i.false in
+    sym (less_cells_next c.args.a.now c.args.b.now c.loop-i.i e (omega arith) (omega arith) (omega arith))
+    ∙ c.loop-i.invariant
 
-pub returns : need.returns
+pub returns : goal.returns
 returns c =
-    let e : Bool = ltb (getD (c .args .a .now) 0 0) (getD (c .args .b .now) 0 0) in
-    sym (less-cells-end (c .args .a .now) (c .args .b .now) (c .loop-i .i) e (omega arith)) ∙ c .loop-i .inv
+    let e : Bool = ltb (get_or c.args.a.now 0 0) (get_or c.args.b.now 0 0) in
+    sym (less_cells_end c.args.a.now c.args.b.now c.loop-i.i e (omega arith)) ∙ c.loop-i.invariant

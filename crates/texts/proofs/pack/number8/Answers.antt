@@ -1,6 +1,6 @@
-use mathlib.Core.Path.{_≡_, sym, _∙_}
-use Rattle·texts·proofs.Parts.{number-eight}
-use Rattle·texts·proofs.pack.number8.Needs as need
+use Rattle.std.proofs.Common.{◌≡◌, sym, ◌∙◌}
+use Rattle.texts.proofs.Parts.{number_eight}
+use Rattle.texts.proofs.pack.number8.Goals as goal
 
-pub returns : need.returns
-returns c = c .from-be-bytes .ensures ∙ sym (number-eight (c .args .bytes))
+pub returns : goal.returns
+returns c = c.from_be_bytes.ensures ∙ sym (number_eight c.args.bytes)

@@ -1,8 +1,6 @@
-use native.Mathlib.Omega.{arith}
-use mathlib.Core.Path.{_≡_, _∙_}
-use lib.ListN.{length}
-use Rattle·texts·proofs.Parts.{zeros-are}
-use Rattle·texts·proofs.pack.write_none.Needs as need
+use Rattle.std.proofs.Common.{◌≡◌, length, ◌∙◌, arith}
+use Rattle.texts.proofs.Parts.{zeros_are}
+use Rattle.texts.proofs.pack.write_none.Goals as goal
 
-pub returns : need.returns
-returns c = c .fill .ensures .after (λ y e. e) ∙ zeros-are (length (c .args .row .now)) (omega arith)
+pub returns : goal.returns
+returns c = c.fill.ensures.after (λ y e. e) ∙ zeros_are (length c.args.row.now) (omega arith)

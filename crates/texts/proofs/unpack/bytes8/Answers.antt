@@ -1,9 +1,7 @@
-use mathlib.Core.Path.{_≡_, refl, _∙_}
-use Rattle·texts·specs.Words.{bytes-be}
-use native.Mathlib.Omega.{arith}
-use native.Mathlib.Nat.{div-one}
-use Rattle·texts·proofs.unpack.bytes8.Needs as need
+use Rattle.std.proofs.Common.{◌≡◌, refl, ◌∙◌, div-one, arith}
+use Rattle.texts.specs.Words.{bytes_be}
+use Rattle.texts.proofs.unpack.bytes8.Goals as goal
 
-pub returns : need.returns
-unfolding bytes-be
-returns c = c .to-be-bytes .ensures ∙ rw (div-one (c .args .x)) refl
+pub returns : goal.returns
+unfolding bytes_be
+returns c = c.to_be_bytes.ensures ∙ rw (div-one c.args.x) refl

@@ -1,5 +1,5 @@
-use Rattle·wire·proofs.Letters.{answer-is-bytes, answer-round-trip, answers-apart}
-use Rattle·wire·proofs.promises.answers_stand.Needs as need
+use Rattle.wire.proofs.Letters.{answer_is_bytes, answer_round_trip, answers_apart}
+use Rattle.wire.proofs.promises.answers_stand.Goals as goal
 
-pub returns : need.returns
-returns c = record { bytes = answer-is-bytes; back = answer-round-trip; apart = answers-apart }
+pub returns : goal.returns
+returns c = record { bytes = answer_is_bytes; back = answer_round_trip; apart = answers_apart }

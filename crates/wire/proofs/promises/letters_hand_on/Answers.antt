@@ -1,5 +1,5 @@
-use Rattle·wire·proofs.Letters.{letters-hand-on}
-use Rattle·wire·proofs.promises.letters_hand_on.Needs as need
+use Rattle.wire.proofs.Letters.{letters_hand_on}
+use Rattle.wire.proofs.promises.letters_hand_on.Goals as goal
 
-pub returns : need.returns
-returns c = letters-hand-on
+pub returns : goal.returns
+returns c = letters_hand_on

@@ -1,5 +1,5 @@
-use Rattle·wire·proofs.Places.{place-is-exact}
-use Rattle·wire·proofs.promises.place_is_exact.Needs as need
+use Rattle.wire.proofs.Places.{place_is_exact}
+use Rattle.wire.proofs.promises.place_is_exact.Goals as goal
 
-pub returns : need.returns
-returns c = place-is-exact
+pub returns : goal.returns
+returns c = place_is_exact

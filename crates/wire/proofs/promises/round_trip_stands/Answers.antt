@@ -1,5 +1,5 @@
-use Rattle·wire·proofs.Trips.{written-is-bytes, round-trip, injective}
-use Rattle·wire·proofs.promises.round_trip_stands.Needs as need
+use Rattle.wire.proofs.Trips.{written_is_bytes, round_trip, injective}
+use Rattle.wire.proofs.promises.round_trip_stands.Goals as goal
 
-pub returns : need.returns
-returns c = record { bytes = written-is-bytes; back = round-trip; apart = injective }
+pub returns : goal.returns
+returns c = record { bytes = written_is_bytes; back = round_trip; apart = injective }

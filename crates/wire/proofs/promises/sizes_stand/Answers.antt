@@ -1,5 +1,5 @@
-use Rattle·wire·proofs.Sizes.{event-fits, answer-fits, answer-is-fine}
-use Rattle·wire·proofs.promises.sizes_stand.Needs as need
+use Rattle.wire.proofs.Sizes.{event_fits, answer_fits, answer_is_fine}
+use Rattle.wire.proofs.promises.sizes_stand.Goals as goal
 
-pub returns : need.returns
-returns c = record { event = event-fits; answer = answer-fits; fine = answer-is-fine }
+pub returns : goal.returns
+returns c = record { event = event_fits; answer = answer_fits; fine = answer_is_fine }

@@ -1,5 +1,5 @@
-use Rattle·wire·proofs.Places.{written-back, read-is-readable}
-use Rattle·wire·proofs.promises.written_back_stands.Needs as need
+use Rattle.wire.proofs.Places.{written_back, read_is_readable}
+use Rattle.wire.proofs.promises.written_back_stands.Goals as goal
 
-pub returns : need.returns
-returns c = record { bytes = written-back; event = read-is-readable }
+pub returns : goal.returns
+returns c = record { bytes = written_back; event = read_is_readable }

@@ -1,59 +1,59 @@
-use mathlib.Core.Path.{_≡_, refl}
-use Rattle·wire.specs.Read.{read-entry}
-use Rattle·wire_read·proofs.Reading.{exits, plainly, reads-then}
-use Rattle·wire_read·proofs.command.checked_entry.Needs as need
+use Rattle.std.proofs.Common.{◌≡◌, refl}
+use Rattle.wire.specs.Read.{read_entry}
+use Rattle.wire_read.proofs.Reading.{exits, plainly, reads_then}
+use Rattle.wire_read.proofs.command.checked_entry.Goals as goal
 
-pub returns-in-Break-server : need.returns-in-Break-server
-unfolding read-entry
-returns-in-Break-server c = exits _ (c .from-residual .ensures .1) (c .in-Break-server .ensures tt)
+pub returns-in_err-server : goal.returns-in_err-server
+unfolding read_entry
+returns-in_err-server c = exits _ c.from_residual.ensures.1 c.in_err-server.ensures
 
-pub returns-in-Break-client : need.returns-in-Break-client
-unfolding read-entry
-returns-in-Break-client c =
-    reads-then _ (c .in-Continue-server .ensures tt) (
-    exits _ (c .from-residual-in-Break-client .ensures .1) (c .in-Break-client .ensures tt))
+pub returns-in_err-client : goal.returns-in_err-client
+unfolding read_entry
+returns-in_err-client c =
+    reads_then _ c.in_ok-server.ensures (
+    exits _ c.from_residual-in_err-client.ensures.1 c.in_err-client.ensures)
 
-pub returns-in-Break-id : need.returns-in-Break-id
-unfolding read-entry
-returns-in-Break-id c =
-    reads-then _ (c .in-Continue-server .ensures tt) (
-    reads-then _ (c .in-Continue-client .ensures tt) (
-    exits _ (c .from-residual-in-Break-id .ensures .1) (c .in-Break-id .ensures tt)))
+pub returns-in_err-id : goal.returns-in_err-id
+unfolding read_entry
+returns-in_err-id c =
+    reads_then _ c.in_ok-server.ensures (
+    reads_then _ c.in_ok-client.ensures (
+    exits _ c.from_residual-in_err-id.ensures.1 c.in_err-id.ensures))
 
-pub returns-in-Break-index : need.returns-in-Break-index
-unfolding read-entry
-returns-in-Break-index c =
-    reads-then _ (c .in-Continue-server .ensures tt) (
-    reads-then _ (c .in-Continue-client .ensures tt) (
-    reads-then _ (c .in-Continue-id .ensures tt) (
-    exits _ (c .from-residual-in-Break-index .ensures .1) (c .in-Break-index .ensures tt))))
+pub returns-in_err-index : goal.returns-in_err-index
+unfolding read_entry
+returns-in_err-index c =
+    reads_then _ c.in_ok-server.ensures (
+    reads_then _ c.in_ok-client.ensures (
+    reads_then _ c.in_ok-id.ensures (
+    exits _ c.from_residual-in_err-index.ensures.1 c.in_err-index.ensures)))
 
-pub returns-in-Break-term : need.returns-in-Break-term
-unfolding read-entry
-returns-in-Break-term c =
-    reads-then _ (c .in-Continue-server .ensures tt) (
-    reads-then _ (c .in-Continue-client .ensures tt) (
-    reads-then _ (c .in-Continue-id .ensures tt) (
-    reads-then _ (c .in-Continue-index .ensures tt) (
-    exits _ (c .from-residual-in-Break-term .ensures .1) (c .in-Break-term .ensures tt)))))
+pub returns-in_err-term : goal.returns-in_err-term
+unfolding read_entry
+returns-in_err-term c =
+    reads_then _ c.in_ok-server.ensures (
+    reads_then _ c.in_ok-client.ensures (
+    reads_then _ c.in_ok-id.ensures (
+    reads_then _ c.in_ok-index.ensures (
+    exits _ c.from_residual-in_err-term.ensures.1 c.in_err-term.ensures))))
 
-pub returns-in-Break-command : need.returns-in-Break-command
-unfolding read-entry
-returns-in-Break-command c =
-    reads-then _ (c .in-Continue-server .ensures tt) (
-    reads-then _ (c .in-Continue-client .ensures tt) (
-    reads-then _ (c .in-Continue-id .ensures tt) (
-    reads-then _ (c .in-Continue-index .ensures tt) (
-    reads-then _ (c .in-Continue-term .ensures tt) (
-    exits _ (c .from-residual-in-Break-command .ensures .1) (c .in-Break-command .ensures tt))))))
+pub returns-in_err-command : goal.returns-in_err-command
+unfolding read_entry
+returns-in_err-command c =
+    reads_then _ c.in_ok-server.ensures (
+    reads_then _ c.in_ok-client.ensures (
+    reads_then _ c.in_ok-id.ensures (
+    reads_then _ c.in_ok-index.ensures (
+    reads_then _ c.in_ok-term.ensures (
+    exits _ c.from_residual-in_err-command.ensures.1 c.in_err-command.ensures)))))
 
-pub returns : need.returns
-unfolding read-entry
+pub returns : goal.returns
+unfolding read_entry
 returns c =
-    let p = c .in-Continue-command .ensures tt in
-    reads-then _ (c .in-Continue-server .ensures tt) (
-    reads-then _ (c .in-Continue-client .ensures tt) (
-    reads-then _ (c .in-Continue-id .ensures tt) (
-    reads-then _ (c .in-Continue-index .ensures tt) (
-    reads-then _ (c .in-Continue-term .ensures tt) (
-    reads-then _ p (plainly refl (p .within .0) (p .within .1)))))))
+    let p = c.in_ok-command.ensures in
+    reads_then _ c.in_ok-server.ensures (
+    reads_then _ c.in_ok-client.ensures (
+    reads_then _ c.in_ok-id.ensures (
+    reads_then _ c.in_ok-index.ensures (
+    reads_then _ c.in_ok-term.ensures (
+    reads_then _ p (plainly refl p.within.0 p.within.1))))))

@@ -1,30 +1,29 @@
-use native.Mathlib.Omega.{arith}
-use mathlib.Core.Path.{_≡_, refl}
-use Rattle·wire.specs.Read.{read-message}
-use Rattle·wire_read·proofs.Laws.{message-bad}
-use Rattle·wire_read·proofs.Reading.{tag-exits, tagged, tag-refused}
-use Rattle·wire_read·proofs.message.read_message.Needs as need
+use Rattle.std.proofs.Common.{◌≡◌, refl, arith}
+use Rattle.wire.specs.Read.{read_message}
+use Rattle.wire_read.proofs.Laws.{message_bad}
+use Rattle.wire_read.proofs.Reading.{tag_exits, tagged, tag_refused}
+use Rattle.wire_read.proofs.message.read_message.Goals as goal
 
-pub returns-in-Break-tag : need.returns-in-Break-tag
-unfolding read-message
-returns-in-Break-tag c = tag-exits read-message _ (c .from-residual .ensures .1) (c .in-Break-tag .ensures tt) refl
+pub returns-in_err-tag : goal.returns-in_err-tag
+unfolding read_message
+returns-in_err-tag c = tag_exits read_message _ c.from_residual.ensures.1 c.in_err-tag.ensures refl
 
-pub returns-in-0 : need.returns-in-0
-unfolding read-message
-returns-in-0 c = tagged read-message 0 (c .in-Continue-tag .ensures tt) (c .in-0 .is) (c .read-ask-vote .ensures)
+pub returns-in-0 : goal.returns-in-0
+unfolding read_message
+returns-in-0 c = tagged read_message 0 c.in_ok-tag.ensures c.in-0.is c.read_ask_vote.ensures
 
-pub returns-in-1 : need.returns-in-1
-unfolding read-message
-returns-in-1 c = tagged read-message 1 (c .in-Continue-tag .ensures tt) (c .in-1 .is) (c .read-vote .ensures)
+pub returns-in-1 : goal.returns-in-1
+unfolding read_message
+returns-in-1 c = tagged read_message 1 c.in_ok-tag.ensures c.in-1.is c.read_vote.ensures
 
-pub returns-in-2 : need.returns-in-2
-unfolding read-message
-returns-in-2 c = tagged read-message 2 (c .in-Continue-tag .ensures tt) (c .in-2 .is) (c .read-append .ensures)
+pub returns-in-2 : goal.returns-in-2
+unfolding read_message
+returns-in-2 c = tagged read_message 2 c.in_ok-tag.ensures c.in-2.is c.read_append.ensures
 
-pub returns-in-3 : need.returns-in-3
-unfolding read-message
-returns-in-3 c = tagged read-message 3 (c .in-Continue-tag .ensures tt) (c .in-3 .is) (c .read-appended .ensures)
+pub returns-in-3 : goal.returns-in-3
+unfolding read_message
+returns-in-3 c = tagged read_message 3 c.in_ok-tag.ensures c.in-3.is c.read_appended.ensures
 
-pub returns-in-rest : need.returns-in-rest
-returns-in-rest c =
-    tag-refused read-message (c .pre) (c .in-Continue-tag .ensures tt) (message-bad (c .in-Continue-tag .tag) _ (omega arith))
+pub returns-in_default : goal.returns-in_default
+returns-in_default c =
+    tag_refused read_message c.requires c.in_ok-tag.ensures (message_bad c.in_ok-tag.tag _ (omega arith))

@@ -1,16 +1,13 @@
-use native.Mathlib.Omega.{arith}
-use mathlib.Core.Path.{_≡_, refl, sym, _∙_}
-use Prim.Native.Nat.{_-_}
-use lib.ListN.{length}
-use Rattle·wire_read·proofs.Laws.{byte-at, byte-end}
-use Rattle·wire_read·proofs.Reading.{plainly, refuses}
-use Rattle·wire_read·proofs.read.read_byte.Needs as need
+use Rattle.std.proofs.Common.{◌≡◌, ◌-◌, length, sym, refl, ◌∙◌, arith}
+use Rattle.wire_read.proofs.Laws.{byte_at, byte_end}
+use Rattle.wire_read.proofs.Reading.{plainly, refuses}
+use Rattle.wire_read.proofs.read.read_byte.Goals as goal
 
-pub returns-then-at-b : need.returns-then-at-b
+pub returns-then-at-b : goal.returns-then-at-b
 returns-then-at-b c =
-    let bs = c .args .b .now in
-    let e : length bs - c .args .at ≡ 0 = omega arith in
-    refuses bs (c .args .at) (byte-end bs (c .args .at) (omega arith) ∙ rw e refl) (omega arith)
+    let bs = c.args.b.now in
+    let e : length bs - c.args.at ≡ 0 = omega arith in
+    refuses bs c.args.at (byte_end bs c.args.at (omega arith) ∙ rw e refl) (omega arith)
 
-pub returns : need.returns
-returns c = plainly (sym (byte-at (c .args .b .now) (c .args .at) (omega arith))) tt (omega arith)
+pub returns : goal.returns
+returns c = plainly (sym (byte_at c.args.b.now c.args.at (omega arith))) tt (omega arith)

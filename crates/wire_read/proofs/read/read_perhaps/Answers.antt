@@ -1,23 +1,22 @@
-use native.Mathlib.Omega.{arith}
-use mathlib.Core.Path.{_≡_, refl}
-use Rattle·wire.specs.Read.{read-perhaps}
-use Rattle·wire_read·proofs.Laws.{perhaps-bad}
-use Rattle·wire_read·proofs.Reading.{tag-exits, tagged, tag-refused, plainly}
-use Rattle·wire_read·proofs.read.read_perhaps.Needs as need
+use Rattle.std.proofs.Common.{◌≡◌, refl, arith}
+use Rattle.wire.specs.Read.{read_perhaps}
+use Rattle.wire_read.proofs.Laws.{perhaps_bad}
+use Rattle.wire_read.proofs.Reading.{tag_exits, tagged, tag_refused, plainly}
+use Rattle.wire_read.proofs.read.read_perhaps.Goals as goal
 
-pub returns-in-Break-tag : need.returns-in-Break-tag
-unfolding read-perhaps
-returns-in-Break-tag c = tag-exits read-perhaps _ (c .from-residual .ensures .1) (c .in-Break-tag .ensures tt) refl
+pub returns-in_err-tag : goal.returns-in_err-tag
+unfolding read_perhaps
+returns-in_err-tag c = tag_exits read_perhaps _ c.from_residual.ensures.1 c.in_err-tag.ensures refl
 
-pub returns-in-0 : need.returns-in-0
-unfolding read-perhaps
+pub returns-in-0 : goal.returns-in-0
+unfolding read_perhaps
 returns-in-0 c =
-    tagged read-perhaps 0 (c .in-Continue-tag .ensures tt) (c .in-0 .is) (plainly refl tt (c .in-Continue-tag .ensures tt .within .1))
+    tagged read_perhaps 0 c.in_ok-tag.ensures c.in-0.is (plainly refl tt c.in_ok-tag.ensures.within.1)
 
-pub returns-in-1 : need.returns-in-1
-unfolding read-perhaps
-returns-in-1 c = tagged read-perhaps 1 (c .in-Continue-tag .ensures tt) (c .in-1 .is) (c .read-some .ensures)
+pub returns-in-1 : goal.returns-in-1
+unfolding read_perhaps
+returns-in-1 c = tagged read_perhaps 1 c.in_ok-tag.ensures c.in-1.is c.read_some.ensures
 
-pub returns-in-rest : need.returns-in-rest
-returns-in-rest c =
-    tag-refused read-perhaps (c .pre) (c .in-Continue-tag .ensures tt) (perhaps-bad (c .in-Continue-tag .tag) _ (omega arith))
+pub returns-in_default : goal.returns-in_default
+returns-in_default c =
+    tag_refused read_perhaps c.requires c.in_ok-tag.ensures (perhaps_bad c.in_ok-tag.tag _ (omega arith))

@@ -1,12 +1,12 @@
-use native.Mathlib.Omega.{arith}
-use Rattle·wire_write·proofs.Putting.{writes-then}
-use Rattle·wire_write·proofs.answer.write_letter_head.Needs as need
+use Rattle.std.proofs.Common.{arith}
+use Rattle.wire_write.proofs.Putting.{writes_then}
+use Rattle.wire_write.proofs.answer.write_letter_head.Goals as goal
 
-pub returns : need.returns
+pub returns : goal.returns
 returns c =
     record {
       bytes =
-          writes-then (c .write-byte-n0 .ensures .bytes)
-          (c .write-number .ensures .bytes);
+          writes_then c.write_byte-n0.ensures.bytes
+          c.write_number.ensures.bytes;
       next = omega arith;
     }

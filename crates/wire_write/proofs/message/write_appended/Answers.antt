@@ -1,14 +1,14 @@
-use native.Mathlib.Omega.{arith}
-use Rattle·wire_write·proofs.Putting.{writes-then}
-use Rattle·wire_write·proofs.message.write_appended.Needs as need
+use Rattle.std.proofs.Common.{arith}
+use Rattle.wire_write.proofs.Putting.{writes_then}
+use Rattle.wire_write.proofs.message.write_appended.Goals as goal
 
-pub returns : need.returns
+pub returns : goal.returns
 returns c =
     record {
       bytes =
-          writes-then (c .write-byte-n0 .ensures .bytes)
-          (writes-then (c .write-number-n1 .ensures .bytes)
-          (writes-then (c .write-number-n2 .ensures .bytes)
-          (c .write-bool .ensures .bytes)));
+          writes_then c.write_byte-n0.ensures.bytes
+          (writes_then c.write_number-n1.ensures.bytes
+          (writes_then c.write_number-n2.ensures.bytes
+          c.write_bool.ensures.bytes));
       next = omega arith;
     }

@@ -1,5 +1,5 @@
-use Rattle·wire_write·proofs.Answering.{written-means}
-use Rattle·wire_write·proofs.promises.written_answers_stand.Needs as need
+use Rattle.wire_write.proofs.Answering.{written_means}
+use Rattle.wire_write.proofs.promises.written_answers_stand.Goals as goal
 
-pub returns : need.returns
-returns c = written-means
+pub returns : goal.returns
+returns c = written_means

@@ -1,12 +1,11 @@
-use mathlib.Core.Path.{refl}
-use lib.ListN.{length}
-use Rattle·wire_write·proofs.Putting.{writes-part}
-use Rattle·wire_write·proofs.put.write_bytes.Needs as need
+use Rattle.std.proofs.Common.{length, refl}
+use Rattle.wire_write.proofs.Putting.{writes_part}
+use Rattle.wire_write.proofs.put.write_bytes.Goals as goal
 
-pub returns : need.returns
+pub returns : goal.returns
 returns c =
-    let t = c .args .t .now in
+    let t = c.args.t.now in
     record {
-      bytes = writes-part (c .args .at) (length t) t (c .args .out .now) _ (c .copy-from-slice .ensures .after) refl (c .pre);
+      bytes = writes_part c.args.at (length t) t c.args.out.now _ c.copy_from_slice.ensures.after refl c.requires;
       next = refl;
     }

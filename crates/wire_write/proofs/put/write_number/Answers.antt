@@ -1,10 +1,10 @@
-use mathlib.Core.Path.{refl, _∙_}
-use Rattle·wire.specs.Write.{write-number}
-use Rattle·wire_write·proofs.Putting.{writes-part}
-use Rattle·wire_write·proofs.put.write_number.Needs as need
+use Rattle.std.proofs.Common.{refl, ◌∙◌}
+use Rattle.wire.specs.Write.{write_number}
+use Rattle.wire_write.proofs.Putting.{writes_part}
+use Rattle.wire_write.proofs.put.write_number.Goals as goal
 
-pub returns : need.returns
-unfolding write-number
+pub returns : goal.returns
+unfolding write_number
 returns c =
-    let e = c .copy-from-slice .ensures .after ∙ c .number-bytes .ensures in
-    record { bytes = writes-part (c .args .at) 8 (write-number (c .args .x)) (c .args .out .now) _ e refl (c .pre); next = refl }
+    let e = c.copy_from_slice.ensures.after ∙ c.number_bytes.ensures in
+    record { bytes = writes_part c.args.at 8 (write_number c.args.x) c.args.out.now _ e refl c.requires; next = refl }

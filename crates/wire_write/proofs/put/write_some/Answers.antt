@@ -1,7 +1,7 @@
-use native.Mathlib.Omega.{arith}
-use Rattle·wire_write·proofs.Putting.{writes-then}
-use Rattle·wire_write·proofs.put.write_some.Needs as need
+use Rattle.std.proofs.Common.{arith}
+use Rattle.wire_write.proofs.Putting.{writes_then}
+use Rattle.wire_write.proofs.put.write_some.Goals as goal
 
-pub returns : need.returns
+pub returns : goal.returns
 returns c =
-    record { bytes = writes-then (c .write-byte-next .ensures .bytes) (c .write-text .ensures .bytes); next = omega arith }
+    record { bytes = writes_then c.write_byte-next.ensures.bytes c.write_text.ensures.bytes; next = omega arith }

@@ -1,37 +1,33 @@
-use native.Mathlib.Omega.{arith}
-use mathlib.Core.Path.{_≡_, sym, ap, _∙_}
-use mathlib.Core.List.{List, _∷_}
-use Prim.Native.Nat.{ℕ, _+_, _-_}
-use lib.ListN.{length, getD, take, drop}
-use Rattle·std.proofs.shelf.Lists.{length-drop, take-rest}
-use Rattle·servers.specs.Store.{Perhaps}
-use Rattle·texts.specs.Words.{perhaps-in, unpacked}
-use Rattle·wire.specs.Write.{write-perhaps, write-text}
-use Rattle·wire_write·proofs.Putting.{writes-as, writes-then}
-use Rattle·wire_write·proofs.Texts.{length-text, length-unpack, perhaps-some}
-use Rattle·wire_write·proofs.words.write_perhaps_in.Needs as need
+use Rattle.std.proofs.Common.{◌≡◌, ℕ, ◌+◌, ◌-◌, List, ◌∷◌, length, get_or, take, drop, sym, ap, ◌∙◌, arith}
+use Rattle.std.proofs.lemmas.List.{length-drop, take_rest}
+use Rattle.servers.specs.Store.{Perhaps}
+use Rattle.texts.specs.Words.{perhaps_in, unpacked}
+use Rattle.wire.specs.Write.{write_perhaps, write_text}
+use Rattle.wire_write.proofs.Putting.{writes_as, writes_then}
+use Rattle.wire_write.proofs.Texts.{length_text, length_unpack, perhaps_some}
+use Rattle.wire_write.proofs.words.write_perhaps_in.Goals as goal
 
-pub write-sized-requires : need.write-sized-requires
-write-sized-requires c κs =
-    let ws = c .args .words .now in
-    let t : List ℕ = take (getD ws 0 0 - 1) (unpacked (drop 1 ws)) in
-    let some = c .pre .some in
-    let sound = c .pre .sound in
-    let room = c .pre .room in
-    let left = c .if-words-eq0 .left in
-    let d = ap length (take-rest ws 1) in
+pub write_sized-requires : goal.write_sized-requires
+write_sized-requires c =
+    let ws = c.args.words.now in
+    let t : List ℕ = take (get_or ws 0 0 - 1) (unpacked (drop 1 ws)) in
+    let some = c.requires.some in
+    let sound = c.requires.sound in
+    let room = c.requires.room in
+    let left = c.if-words-eq0.false in
+    let d = ap length (take_rest ws 1) in
     let e = length-drop 1 ws in
-    let p = perhaps-some ws (omega arith) in
-    let b : length (write-perhaps (perhaps-in ws)) ≡ 1 + length (write-text t) =
-    ap (λ (q : Perhaps). length (write-perhaps q)) p ∙ omega arith in
-    let l = length-text t in
-    let u = length-unpack (getD ws 0 0 - 1) (drop 1 ws) (omega arith) in
+    let p = perhaps_some ws (omega arith) in
+    let b : length (write_perhaps (perhaps_in ws)) ≡ 1 + length (write_text t) =
+    ap (λ (q : Perhaps). length (write_perhaps q)) p ∙ omega arith in
+    let l = length_text t in
+    let u = length_unpack (get_or ws 0 0 - 1) (drop 1 ws) (omega arith) in
     record { room = omega arith; there = omega arith }
 
-pub returns : need.returns
+pub returns : goal.returns
 returns c =
-    let ws = c .args .words .now in
-    let left = c .if-words-eq0 .left in
-    let p = perhaps-some ws (omega arith) in
-    let e = ap (λ (z : List ℕ). 1 ∷ write-text (take (getD ws 0 0 - 1) (unpacked z))) (take-rest ws 1) in
-    writes-as (e ∙ sym (ap write-perhaps p)) (writes-then (c .write-byte-next .ensures .bytes) (c .write-sized .ensures))
+    let ws = c.args.words.now in
+    let left = c.if-words-eq0.false in
+    let p = perhaps_some ws (omega arith) in
+    let e = ap (λ (z : List ℕ). 1 ∷ write_text (take (get_or ws 0 0 - 1) (unpacked z))) (take_rest ws 1) in
+    writes_as (e ∙ sym (ap write_perhaps p)) (writes_then c.write_byte-next.ensures.bytes c.write_sized.ensures)

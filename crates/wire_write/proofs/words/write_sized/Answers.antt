@@ -1,16 +1,13 @@
-use mathlib.Core.Path.{_≡_, sym, ap}
-use mathlib.Core.List.{_++_}
-use Prim.Native.Nat.{ℕ}
-use lib.ListN.{length, take}
-use Rattle·texts.specs.Words.{unpacked}
-use Rattle·wire.specs.Write.{write-number}
-use Rattle·wire_write·proofs.Putting.{writes-as, writes-then}
-use Rattle·wire_write·proofs.Texts.{length-unpack}
-use Rattle·wire_write·proofs.words.write_sized.Needs as need
+use Rattle.std.proofs.Common.{◌≡◌, ℕ, ◌++◌, length, take, sym, ap}
+use Rattle.texts.specs.Words.{unpacked}
+use Rattle.wire.specs.Write.{write_number}
+use Rattle.wire_write.proofs.Putting.{writes_as, writes_then}
+use Rattle.wire_write.proofs.Texts.{length_unpack}
+use Rattle.wire_write.proofs.words.write_sized.Goals as goal
 
-pub returns : need.returns
+pub returns : goal.returns
 returns c =
-    let t = take (c .args .len) (unpacked (c .args .words .now)) in
-    let u = length-unpack (c .args .len) (c .args .words .now) (c .pre .there) in
-    writes-as (ap (λ (k : ℕ). write-number k ++ t) (sym u))
-    (writes-then (c .write-number-next .ensures .bytes) (c .write-unpacked .ensures))
+    let t = take c.args.len (unpacked c.args.words.now) in
+    let u = length_unpack c.args.len c.args.words.now c.requires.there in
+    writes_as (ap (λ (k : ℕ). write_number k ++ t) (sym u))
+    (writes_then c.write_number-next.ensures.bytes c.write_unpacked.ensures)

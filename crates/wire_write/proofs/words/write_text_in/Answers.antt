@@ -1,27 +1,23 @@
-use native.Mathlib.Omega.{arith}
-use mathlib.Core.Path.{_≡_, ap}
-use mathlib.Core.List.{List}
-use Prim.Native.Nat.{ℕ}
-use lib.ListN.{length, getD, take}
-use Rattle·std.proofs.shelf.Lists.{length-drop, take-rest}
-use Rattle·texts.specs.Words.{text-in, unpacked}
-use Rattle·wire.specs.Write.{write-text}
-use Rattle·wire_write·proofs.Putting.{writes-as}
-use Rattle·wire_write·proofs.Texts.{length-text, length-text-in}
-use Rattle·wire_write·proofs.words.write_text_in.Needs as need
+use Rattle.std.proofs.Common.{◌≡◌, ℕ, List, length, get_or, take, ap, arith}
+use Rattle.std.proofs.lemmas.List.{length-drop, take_rest}
+use Rattle.texts.specs.Words.{text_in, unpacked}
+use Rattle.wire.specs.Write.{write_text}
+use Rattle.wire_write.proofs.Putting.{writes_as}
+use Rattle.wire_write.proofs.Texts.{length_text, length_text_in}
+use Rattle.wire_write.proofs.words.write_text_in.Goals as goal
 
-pub write-sized-requires : need.write-sized-requires
-write-sized-requires c κs =
-    let ws = c .args .words .now in
-    let a = length-text (text-in ws) in
-    let b = length-text-in ws (c .pre .some) (c .pre .sound) in
-    let d = ap length (take-rest ws 1) in
+pub write_sized-requires : goal.write_sized-requires
+write_sized-requires c =
+    let ws = c.args.words.now in
+    let a = length_text (text_in ws) in
+    let b = length_text_in ws c.requires.some c.requires.sound in
+    let d = ap length (take_rest ws 1) in
     let e = length-drop 1 ws in
-    let r = c .pre .room in
-    let s = c .pre .sound in
+    let r = c.requires.room in
+    let s = c.requires.sound in
     record { room = omega arith; there = omega arith }
 
-pub returns : need.returns
+pub returns : goal.returns
 returns c =
-    let ws = c .args .words .now in
-    writes-as (ap (λ (z : List ℕ). write-text (take (getD ws 0 0) (unpacked z))) (take-rest ws 1)) (c .write-sized .ensures)
+    let ws = c.args.words.now in
+    writes_as (ap (λ (z : List ℕ). write_text (take (get_or ws 0 0) (unpacked z))) (take_rest ws 1)) c.write_sized.ensures

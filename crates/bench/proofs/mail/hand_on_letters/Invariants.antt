@@ -1,0 +1,6 @@
+use Rattle.std.proofs.Common.{◌≤◌, length}
+use Rattle.bench.specs.Standing.{Stand}
+use Rattle.bench.proofs.mail.hand_on_letters.Given as goal
+
+abbrev pub invariant-loop-i : goal.invariant-loop-i
+invariant-loop-i l = Stand l.g l.mems × (l.next ≤ length l.b) × (l.mail.end ≤ length l.out)

@@ -1,0 +1,14 @@
+// What is promised of a log in words, as a contract: its proof is the theorems'.
+ghost use Rattle.raft_log.specs.Promises.{AboveAndUpTo, AtItsIndex, DueInOrder, FirstRows, NoneElsewhere, ReadBack, WordsFit};
+
+pub fn rows_stand() -> u8
+    ensures back { ReadBack }
+    ensures fit { WordsFit }
+    ensures found { AtItsIndex }
+    ensures none { NoneElsewhere }
+    ensures first { FirstRows }
+    ensures parts { AboveAndUpTo }
+    ensures due { DueInOrder }
+{
+    0
+}

@@ -1,0 +1,97 @@
+// Entries as the bytes of a message, straight from their rows, the last first: what a leader sends.
+ghost use Rattle.std.specs.Prelude.{◌≡◌, ℕ, ◌+◌, ◌-◌, ◌*◌, ◌^◌, ◌<◌, ◌≤◌, [], ◌∷◌, ◌++◌, length, slice_index};
+ghost use Rattle.servers.specs.Server.{above};
+ghost use Rattle.texts.specs.Words.{text_in, perhaps_in};
+ghost use Rattle.wire.specs.Write.{write_number, write_command, write_entry, write_entries};
+ghost use Rattle.raft_log.specs.Rows.{row_in, log_in, command_in};
+ghost use Rattle.raft_log.specs.Places.{entry_in};
+ghost use Rattle.wire_write.specs.Put.{Writes};
+ghost use Rattle.raft_log.specs.Bytes.{Sound, SoundCommand, SoundRow, write_numbers, write_expected, write_last};
+
+use crate::row::{Numbers, ROW, place};
+use wire_write::put::{write_byte, write_number};
+use wire_write::words::{write_perhaps_in, write_text_in};
+
+// Of the five commands only a swap says what it expects.
+fn write_expected(out: &mut [u8], at: usize, tag: u64, words: &[u64]) -> usize
+    requires size { length words.now ≡ 33 }
+    requires sound { slice_index words.now 0 ≤ 257 }
+    requires room { at + length (write_expected tag (perhaps_in words.now)) ≤ length out.old }
+    ensures { Writes at (write_expected tag (perhaps_in words.now)) out.old out.new result }
+{
+    if tag == 3 {
+        write_perhaps_in(out, at, words)
+    } else {
+        at
+    }
+}
+
+// Get and remove have no text.
+fn write_last(out: &mut [u8], at: usize, tag: u64, words: &[u64]) -> usize
+    requires size { length words.now ≡ 33 }
+    requires sound { slice_index words.now 0 ≤ 256 }
+    requires room { at + length (write_last tag (text_in words.now)) ≤ length out.old }
+    ensures { Writes at (write_last tag (text_in words.now)) out.old out.new result }
+{
+    if tag == 0 || tag == 2 {
+        at
+    } else {
+        write_text_in(out, at, words)
+    }
+}
+
+fn write_command(out: &mut [u8], at: usize, words: &[u64]) -> usize
+    requires size { length words.now ≡ 76 }
+    requires sound { SoundCommand words.now }
+    requires room { at + length (write_command (command_in words.now)) ≤ length out.old }
+    ensures { Writes at (write_command (command_in words.now)) out.old out.new result }
+{
+    let tag = words[0];
+    let named = write_byte(out, at, tag as u8);
+    let expecting = write_text_in(out, named, &words[1..10]);
+    let last = write_expected(out, expecting, tag, &words[10..43]);
+    write_last(out, last, tag, &words[43..76])
+}
+
+fn write_numbers(out: &mut [u8], at: usize, numbers: Numbers, index: u64) -> usize
+    requires server { numbers.server < 256 }
+    requires room { at + 33 ≤ length out.old }
+    ensures bytes { Writes at (write_numbers numbers.server numbers.client numbers.number index numbers.term)
+        out.old out.new result }
+    ensures next { result ≡ at + 33 }
+{
+    let client = write_byte(out, at, numbers.server as u8);
+    let number = write_number(out, client, numbers.client);
+    let place = write_number(out, number, numbers.number);
+    let term = write_number(out, place, index);
+    write_number(out, term, numbers.term)
+}
+
+// The entry of a row, which stands at that index.
+fn write_entry(out: &mut [u8], at: usize, row: &[u64], index: u64) -> usize
+    requires size { length row.now ≡ 80 }
+    requires sound { SoundRow row.now }
+    requires room { at + length (write_entry (row_in index row.now)) ≤ length out.old }
+    ensures { Writes at (write_entry (row_in index row.now)) out.old out.new result }
+{
+    let next = write_numbers(out, at, Numbers::read(row), index);
+    write_command(out, next, &row[4..80])
+}
+
+// The entries above an index, of a log of `len` entries. The other bytes stay, and the place after the entries is told.
+pub fn write_entries(out: &mut [u8], at: usize, region: &[u64], len: usize, index: usize) -> usize
+    requires low { len ≤ 2 ^ 32 }
+    requires there { 80 * len ≤ length region.now }
+    requires sound { Sound len region.now }
+    requires room { at + length (write_entries (above index (log_in len region.now))) ≤ length out.old }
+    ensures { Writes at (write_entries (above index (log_in len region.now))) out.old out.new result }
+{
+    let mut next = at;
+    let mut left = len;
+    while left > index {
+        let row = place(left);
+        next = write_entry(out, next, &region[row..row + ROW], left as u64);
+        left -= 1;
+    }
+    next
+}

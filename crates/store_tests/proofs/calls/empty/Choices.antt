@@ -1,5 +1,0 @@
-use Rattle·store.specs.Calls.{Held}
-use Rattle·store_tests·proofs.calls.empty.Given as given
-
-abbrev pub Inv-loop-i : given.InvT-loop-i
-Inv-loop-i l = Held (l .region)
