@@ -1,7 +1,7 @@
 -- What a memory turns into, said otherwise, and one change after the other.
 use Rattle.std.proofs.Common.{◌≡◌, ℕ, Bool, true, false, not, ◌||◌, ltb, List, sym, refl, ap, ◌∙◌}
 use Rattle.servers.specs.Store.{Command, Reply, reply}
-use Rattle.servers.specs.Server.{Entry, State, at_least, with_applied, is_new, do_one}
+use Rattle.servers.specs.Server.{Entry, State, is_new, do_one}
 use Rattle.servers.proofs.Tests.{pick_true, pick_false}
 use Rattle.store.specs.Region.{region_do}
 use Rattle.raft_log.specs.declared.row.Numbers.{Numbers}
@@ -25,11 +25,6 @@ turns_then f m m₁ m₂ s t r u a b e k =
       limits = b.limits ∙ a.limits;
       region = b.region ∙ (a.region ∙ k);
     }
-
--- the applied index is the larger of the two
-pub finished_at : (s : State) (a c n : ℕ) → a ≡ s.applied → c ≡ s.commit → n ≡ at_least a c
-    → with_applied n s ≡ with_applied (at_least s.applied s.commit) s
-finished_at s a c n e f g = rw (g, e, f) refl
 
 -- a command done, and then its reply kept
 pub done_kept : (s : State) (x y : Command) (q : Reply) (c k : ℕ) → x ≡ y → q ≡ reply x s.store

@@ -6,4 +6,4 @@ use Rattle.election.proofs.restart.start_again.Goals as goal
 pub returns : goal.returns
 returns c =
     let m = c.args.mem.now in
-    next_then calmed m c.forget.new.mem c.calm.new.mem (forgot (limits_of m) (state_of m)) c.forget.ensures c.calm.ensures
+    next_then calmed m c.forget.new.mem _ (forgot (limits_of m) (state_of m)) c.forget.ensures (assumption)

@@ -12,13 +12,12 @@ returns-then-granted c =
     let s = state_of m in
     said m c.count_vote.new.mem (voted_by l c.args.h (fresh l s)) _
     (ap (λ (b : Bool). voted_on l c.args.h b s) (sym c.if-granted.true))
-    (next_then (λ (k : Limits) (t : State). voted_by k c.args.h t) m c.start_afresh.new.mem c.count_vote.new.mem (fresh l s)
-    c.start_afresh.ensures c.count_vote.ensures)
+    (next_then (λ (k : Limits) (t : State). voted_by k c.args.h t) m _ c.count_vote.new.mem (fresh l s) (assumption)
+    c.count_vote.ensures)
 
 pub returns-else-granted : goal.returns-else-granted
 returns-else-granted c =
     let m = c.args.mem.now in
     let l = limits_of m in
     let s = state_of m in
-    said m c.start_afresh.new.mem (fresh l s) _ (ap (λ (b : Bool). voted_on l c.args.h b s) (sym c.if-granted.false))
-    c.start_afresh.ensures
+    said m _ (fresh l s) _ (ap (λ (b : Bool). voted_on l c.args.h b s) (sym c.if-granted.false)) (assumption)
