@@ -2,8 +2,8 @@
 // is refused leaves every word of the memory as it was.
 ghost use Rattle.server_tests.specs.Live.{Live};
 
+use crate::harness::{WORDS, open_server, take};
 use crate::notation::{bytes, row};
-use crate::server::{WORDS, open_server, take};
 use std::alloc::Global;
 use std::process::Abort;
 use std::test::Fail;

@@ -2,8 +2,8 @@
 // from the bytes of the answer that it was sent in.
 ghost use Rattle.server_tests.specs.Live.{Live};
 
+use crate::harness::{WORDS, has, open_server, take};
 use crate::notation::bytes;
-use crate::server::{WORDS, has, open_server, take};
 use std::alloc::{AllocError, Global};
 use std::process::Abort;
 use std::test::Fail;
