@@ -1,6 +1,7 @@
 use Rattle.std.proofs.Common.{◌≡◌, Bool, true, false, not, ◌&&◌, ℕ, ◌<◌, ◌≤◌, refl, sym, ap, ◌∙◌, arith}
 use Rattle.std.proofs.lemmas.Bool.{lt-ltb, le-ltb}
-use Rattle.servers.specs.Server.{State, with_voted, advanced, as_new, empty, may_vote, grants}
+use Rattle.servers.specs.Store.{pick}
+use Rattle.servers.specs.Server.{asked, State, with_voted, advanced, as_new, empty, may_vote, grants}
 use Rattle.servers.proofs.Tests.{pick_true, pick_false}
 use Rattle.state.specs.Held.{state_of}
 use Rattle.state.proofs.Laws.{stays, said, then_to}
@@ -23,9 +24,13 @@ grants_is s h t i u e =
     ap (λ (b : Bool). not b && ((empty a.leader && as_new i u a) && may_vote a.voted h)) (le-ltb t s.term e)
     ∙ sym (regroup (as_new i u a) (empty a.leader) (may_vote a.voted h))
 
-asked_is : (s a : State) (h t i u : ℕ) (g b : Bool) → s.term ≤ t → a ≡ advanced t s → g ≡ given a h i u → g ≡ b
-    → grants s h t i u ≡ b
-asked_is s a h t i u g b e w q r = grants_is s h t i u e ∙ (ap (λ (z : State). given z h i u) (sym w) ∙ (sym q ∙ r))
+-- what the vote does to the state, by the test as the code makes it: of the state a, with the outcome b
+asked_by : (s a : State) (h t i u : ℕ) (g b : Bool) → s.term ≤ t → a ≡ advanced t s → g ≡ given a h i u → g ≡ b
+    → asked s h t i u ≡ pick b (with_voted h (advanced t s)) (advanced t s)
+asked_by s a h t i u g b e w q r =
+    pick_false _ _ _ (le-ltb t s.term e)
+    ∙ ap (λ (x : Bool). pick x (with_voted h (advanced t s)) (advanced t s))
+    (grants_is s h t i u e ∙ (ap (λ (z : State). given z h i u) (sym w) ∙ (sym q ∙ r)))
 
 pub returns-then-term-own-clause-state : goal.returns-then-term-own-clause-state
 returns-then-term-own-clause-state c =
@@ -37,20 +42,17 @@ pub returns-then-granted-clause-state : goal.returns-then-granted-clause-state
 unfolding given
 returns-then-granted-clause-state c =
     let m = c.args.mem.now in
-    let s = state_of m in
-    let e : s.term ≤ c.args.term = omega (arith, c.term-own.ensures.value, c.if-term-own.false) in
-    let g = asked_is s (state_of c.advance.new.mem) c.args.h c.args.term c.args.last c.args.of c.grants-granted.result true e
-    c.advance.ensures.state c.grants-granted.ensures c.if-granted.true in
-    then_to (with_voted c.args.h) m c.advance.new.mem c.vote_for.new.mem (advanced c.args.term s) _ c.advance.ensures c.vote_for.ensures
-    (sym (pick_false _ _ _ (le-ltb c.args.term s.term e) ∙ pick_true _ _ _ g))
+    let e : (state_of m).term ≤ c.args.term = omega (arith, c.term-own.ensures.value, c.if-term-own.false) in
+    then_to (with_voted c.args.h) m c.advance.new.mem c.vote_for.new.mem (advanced c.args.term (state_of m)) _ c.advance.ensures
+    c.vote_for.ensures
+    (sym (asked_by (state_of m) _ c.args.h c.args.term c.args.last c.args.of _ true e c.advance.ensures.state c.grants-granted.ensures
+    c.if-granted.true))
 
 pub returns-else-granted-clause-state : goal.returns-else-granted-clause-state
 unfolding given
 returns-else-granted-clause-state c =
     let m = c.args.mem.now in
-    let s = state_of m in
-    let e : s.term ≤ c.args.term = omega (arith, c.term-own.ensures.value, c.if-term-own.false) in
-    let g = asked_is s (state_of c.advance.new.mem) c.args.h c.args.term c.args.last c.args.of c.grants-granted.result false e
-    c.advance.ensures.state c.grants-granted.ensures c.if-granted.false in
-    said m c.advance.new.mem (advanced c.args.term s) _ (sym (pick_false _ _ _ (le-ltb c.args.term s.term e) ∙ pick_false _ _ _ g))
-    c.advance.ensures
+    let e : (state_of m).term ≤ c.args.term = omega (arith, c.term-own.ensures.value, c.if-term-own.false) in
+    said m c.advance.new.mem (advanced c.args.term (state_of m)) _
+    (sym (asked_by (state_of m) _ c.args.h c.args.term c.args.last c.args.of _ false e c.advance.ensures.state
+    c.grants-granted.ensures c.if-granted.false)) c.advance.ensures
