@@ -8,7 +8,7 @@ ghost use Rattle.election.specs.Steps.{newer, carried};
 
 use raft_log::find::last_term;
 use state::head;
-use state::parts::log_part;
+use state::parts::log;
 
 // What is said to who asks: the term, and whether it has the vote.
 #[derive(Clone, Copy)]
@@ -30,7 +30,7 @@ pub fn is_as_new(mem: &[u64], last: u64, of: u64) -> bool
     ensures { result ≡ as_new last of (state_of mem.now) }
 {
     let length = head::last_index(mem);
-    let own = last_term(log_part(mem), length as usize);
+    let own = last_term(log(mem));
     is_newer(own, length, of, last)
 }
 

@@ -1,11 +1,12 @@
 // Each test writes entries as the bytes of a message, has the log take them, and looks at the words.
-ghost use Rattle.std.specs.Prelude.{◌≡◌, ◌+◌, ◌*◌, ◌^◌, ◌<◌, ◌≤◌, length, replicate};
+ghost use Rattle.std.specs.Prelude.{◌≡◌, ◌+◌, ◌*◌, ◌^◌, ◌<◌, ◌≤◌, length, take, replicate};
+ghost use Rattle.raft_log.specs.Places.{words_of};
 ghost use Rattle.log_tests.specs.Held.{Held};
 
 use raft_log::append::push;
 use raft_log::find::{has_new, has_term, last_term, numbers_at, term_at, term_or_zero};
 use raft_log::replace::replace;
-use raft_log::row::Numbers;
+use raft_log::row::{LogRow, Numbers, ROW};
 use raft_log::size::entries_size;
 use raft_log::write::write_entries;
 use wire_read::message::read_entries;
@@ -43,6 +44,16 @@ fn replaced(region: &mut [u64], len: usize, index: usize, b: &[u8], count: usize
     index + count
 }
 
+// The first rows of a region: a log as it is lent.
+fn rows(region: &[u64], len: usize) -> &[LogRow]
+    requires { 80 * len ≤ length region.now }
+    ensures words { words_of result.now ≡ take (80 * len) region.now }
+    ensures long { length result.now ≡ len }
+{
+    let (rows, _) = region[..ROW * len].as_chunks();
+    rows
+}
+
 // Whether all words are zero.
 fn zero(words: &[u64]) -> bool {
     for w in words {
@@ -57,18 +68,22 @@ fn zero(words: &[u64]) -> bool {
 fn one_room(rt: HostRuntime) {
     let mut region = [0u64; 80];
     let mut bytes = [0u8; 60];
-    assert_eq!(rt; term_at(&region, 0, 1), None, "an empty log has no entry");
-    assert_eq!(rt; last_term(&region, 0), 0, "nor a term");
+    assert_eq!(rt;
+        term_at(rows(&region, 0), 1),
+        None,
+        "an empty log has no entry"
+    );
+    assert_eq!(rt; last_term(rows(&region, 0)), 0, "nor a term");
     let _end = entry(&mut bytes, 0, 1, 5, b"text");
     assert_eq!(rt; replaced(&mut region, 0, 0, &bytes, 1), 1, "one entry came");
     assert_eq!(rt;
-        term_at(&region, 1, 1),
+        term_at(rows(&region, 1), 1),
         Some(5),
         "its term is found at its index"
     );
-    assert_eq!(rt; term_at(&region, 1, 2), None, "and none after it");
-    assert_eq!(rt; term_at(&region, 1, 0), None, "nor before it");
-    let numbers = numbers_at(&region, 1);
+    assert_eq!(rt; term_at(rows(&region, 1), 2), None, "and none after it");
+    assert_eq!(rt; term_at(rows(&region, 1), 0), None, "nor before it");
+    let numbers = numbers_at(rows(&region, 1), 1);
     assert_eq!(rt; numbers.server, 3);
     assert_eq!(rt; numbers.client, 7);
     assert_eq!(rt; numbers.number, 11);
@@ -97,12 +112,12 @@ fn in_the_middle(rt: HostRuntime) {
     let mut region = [0u64; 320];
     assert_eq!(rt; three(&mut region), 3);
     assert_eq!(rt;
-        term_at(&region, 3, 1),
+        term_at(rows(&region, 3), 1),
         Some(1),
         "the last came first in the bytes"
     );
-    assert_eq!(rt; term_at(&region, 3, 3), Some(2), "and stands last");
-    assert_eq!(rt; last_term(&region, 3), 2);
+    assert_eq!(rt; term_at(rows(&region, 3), 3), Some(2), "and stands last");
+    assert_eq!(rt; last_term(rows(&region, 3)), 2);
     assert!(rt; zero(&region[240..320]), "no row past the end");
     let before = region;
     let mut bytes = [0u8; 80];
@@ -114,7 +129,7 @@ fn in_the_middle(rt: HostRuntime) {
     );
     assert!(rt; region[0..80] == before[0..80], "the first row stays");
     assert_eq!(rt;
-        term_at(&region, 2, 2),
+        term_at(rows(&region, 2), 2),
         Some(9),
         "the second is the new one"
     );
@@ -132,14 +147,18 @@ fn at_the_start_and_the_end(rt: HostRuntime) {
         4,
         "one more, and the room is full"
     );
-    assert_eq!(rt; last_term(&region, 4), 3);
-    assert_eq!(rt; term_at(&region, 4, 3), Some(2), "what was there stays");
+    assert_eq!(rt; last_term(rows(&region, 4)), 3);
+    assert_eq!(rt;
+        term_at(rows(&region, 4), 3),
+        Some(2),
+        "what was there stays"
+    );
     assert_eq!(rt;
         replaced(&mut region, 4, 0, &bytes, 1),
         1,
         "all replaced by one"
     );
-    assert_eq!(rt; last_term(&region, 1), 3);
+    assert_eq!(rt; last_term(rows(&region, 1)), 3);
     assert!(rt; zero(&region[80..320]), "the others are cleared");
 }
 
@@ -147,21 +166,27 @@ fn at_the_start_and_the_end(rt: HostRuntime) {
 fn terms_are_told_apart(rt: HostRuntime) {
     let mut region = [0u64; 320];
     assert_eq!(rt; three(&mut region), 3);
-    assert!(rt; has_term(&region, 3, 3, 2), "an entry of that term");
-    assert!(rt; !has_term(&region, 3, 3, 1), "none of another");
-    assert!(rt; !has_term(&region, 3, 0, 0), "none at 0, whatever its term");
-    assert!(rt; !has_term(&region, 3, 4, 0), "none past the end");
-    assert_eq!(rt; term_or_zero(&region, 3, 4), 0);
+    assert!(rt; has_term(rows(&region, 3), 3, 2), "an entry of that term");
+    assert!(rt; !has_term(rows(&region, 3), 3, 1), "none of another");
     assert!(rt;
-        !has_new(&region, 3, 0, 0, 0),
+        !has_term(rows(&region, 3), 0, 0),
+        "none at 0, whatever its term"
+    );
+    assert!(rt; !has_term(rows(&region, 3), 4, 0), "none past the end");
+    assert_eq!(rt; term_or_zero(rows(&region, 3), 4), 0);
+    assert!(rt;
+        !has_new(rows(&region, 3), 0, 0, 0),
         "no entries bring nothing new"
     );
     assert!(rt;
-        !has_new(&region, 3, 2, 3, 2),
+        !has_new(rows(&region, 3), 2, 3, 2),
         "nor do entries that the log has"
     );
-    assert!(rt; has_new(&region, 3, 2, 3, 3), "one of another term does");
-    assert!(rt; has_new(&region, 3, 1, 4, 2), "and one past the end");
+    assert!(rt;
+        has_new(rows(&region, 3), 2, 3, 3),
+        "one of another term does"
+    );
+    assert!(rt; has_new(rows(&region, 3), 1, 4, 2), "and one past the end");
 }
 
 #[test]
@@ -237,10 +262,11 @@ fn sent(out: &mut [u8], region: &[u64], len: usize, index: usize) -> usize
     requires held { Held len region.now }
     requires room { len ≤ 4 }
 {
-    if entries_size(region, len, index) > out.len() {
+    let log = rows(region, len);
+    if entries_size(log, index) > out.len() {
         return 0;
     }
-    write_entries(out, 0, region, len, index)
+    write_entries(out, 0, log, index)
 }
 
 // Three entries.
