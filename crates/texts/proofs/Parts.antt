@@ -1,15 +1,14 @@
 -- What the code's steps leave: one word more, a padded last word, parts put together.
-use Rattle.std.proofs.Common.{◌≡◌, ℕ, zero, suc, ◌+◌, ◌-◌, ◌*◌, ◌^◌, ◌<◌, ◌≤◌, Bool, true, false, ◌&&◌, ◌||◌, eqb, ltb, List, [], ◌∷◌, ◌++◌, length, map, get_or, take, drop, set, replicate, sym, refl, ap, ◌∙◌, arith}
+use Rattle.std.proofs.Common.{◌≡◌, ℕ, zero, suc, ◌+◌, ◌-◌, ◌*◌, ◌^◌, ◌<◌, ◌≤◌, Bool, true, false, ◌&&◌, eqb, List, [], ◌∷◌, ◌++◌, length, map, get_or, take, drop, set, replicate, sym, refl, ap, ◌∙◌, arith}
 use borrow.Rule.Slice.PartMut.{put_mid, post_of}
 use Rattle.std.proofs.lemmas.List.{length-append, length-take-le, append-nil, append_assoc, drop-drop, drop_all, take_at, take_more, drop_more, get_or-drop, take-append-drop, length-drop, take-append-le}
 use Rattle.std.proofs.lemmas.Bool.Decides.{nat_tests}
-use Rattle.std.proofs.lemmas.Bool.{eq-eqb, ne_eqb, le-ltb}
 use Rattle.std.specs.Simd.{first_chunks}
 use Rattle.servers.specs.Store.{same_text}
 use Rattle.texts.specs.Words.{number_be, bytes_be, cells, unpacked}
 use Rattle.texts.specs.Order.{less_cells}
 use Rattle.texts.proofs.Bytes.{length_bytes_be}
-use Rattle.texts.proofs.Cells.{length_unpacked, cells_add, cells_nil}
+use Rattle.texts.proofs.Cells.{length_unpacked, cells_nil}
 
 -- one digit of a number
 number_drop : (n k : ℕ) (bs : List ℕ) → number_be (suc n) (drop k bs) ≡ get_or bs k 0 * 256 ^ n + number_be n (drop (k + 1) bs)

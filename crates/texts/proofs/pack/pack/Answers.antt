@@ -1,4 +1,4 @@
-use Rattle.std.proofs.Common.{◌≡◌, ℕ, ◌+◌, ◌-◌, ◌*◌, ◌/◌, List, ◌++◌, length, drop, sym, refl, ap, ◌∙◌, arith}
+use Rattle.std.proofs.Common.{◌≡◌, ℕ, ◌+◌, ◌*◌, ◌/◌, List, length, drop, sym, refl, ◌∙◌, arith}
 use Rattle.texts.specs.Words.{cells}
 use Rattle.texts.proofs.Cells.{cells_add}
 use Rattle.texts.proofs.Parts.{cells_whole}

@@ -1,4 +1,4 @@
-use Rattle.std.proofs.Common.{◌∙◌, arith}
+use Rattle.std.proofs.Common.{arith}
 use Rattle.texts.proofs.Parts.{cells_short}
 use Rattle.texts.proofs.pack.pack_rest.Goals as goal
 
