@@ -104,12 +104,10 @@ spot_there k r p o e =
     ∙ (ap (λ (n : ℕ). ltb (place k (items_of r)) n && same_text (Nth r (place k (items_of r))).key k) (items_count (capacity r) r o)
     ∙ ap (λ (q : ℕ). ltb q (count r) && same_text (Nth r q).key k) (sym e))
 
-pub spot_within : (k r : List ℕ) (p : ℕ) (b : Bool) → Held r → p ≡ place k (items_of r) → p < count r → b ≡ same_text (Nth r p).key k
-    → b ≡ found k (items_of r)
-spot_within k r p b o e h f =
-    f ∙ sym (spot_there k r p o e ∙ ap (λ (t : Bool). t && same_text (Nth r p).key k) (lt-ltb p (count r) h))
+pub spot_here : (k r : List ℕ) (p : ℕ) → Held r → p ≡ place k (items_of r) → p < count r → found k (items_of r) ≡ same_text (Nth r p).key k
+spot_here k r p o e h =
+    spot_there k r p o e ∙ ap (λ (t : Bool). t && same_text (Nth r p).key k) (lt-ltb p (count r) h)
 
-pub spot_past : (k r : List ℕ) (p : ℕ) → Held r → p ≡ place k (items_of r) → count r ≤ p → ltb p (count r) ≡ found k (items_of r)
+pub spot_past : (k r : List ℕ) (p : ℕ) → Held r → p ≡ place k (items_of r) → count r ≤ p → found k (items_of r) ≡ false
 spot_past k r p o e h =
-    let f = le-ltb p (count r) h in
-    f ∙ sym (spot_there k r p o e ∙ ap (λ (t : Bool). t && same_text (Nth r p).key k) f)
+    spot_there k r p o e ∙ ap (λ (t : Bool). t && same_text (Nth r p).key k) (le-ltb p (count r) h)

@@ -1,6 +1,6 @@
 -- What the functions of the store ask of their words, and what they leave. Assumes nothing: these are definitions.
-use Rattle.std.specs.Prelude.{◌≡◌, ℕ, ◌*◌, Bool, List, [], ◌∷◌, length, Some, None, Option, slice_index_or}
-use Rattle.servers.specs.Store.{pick, Perhaps, Command, Store, reply}
+use Rattle.std.specs.Prelude.{◌≡◌, ℕ, ◌*◌, true, false, List, [], ◌∷◌, Some, None, Option, Ok, Err, Result, slice_index_or}
+use Rattle.servers.specs.Store.{Perhaps, Command, Store, reply}
 use Rattle.texts.specs.Words.{Text, PerhapsText, text_words, text_in, perhaps_words, perhaps_in}
 use Rattle.std.specs.Borrow.{Bor}
 use Rattle.texts.specs.Commands.{command_words, command_in, GoodCommand}
@@ -19,28 +19,23 @@ pub record OfPerhaps (n : ℕ) (ws : List ℕ) : Type 0 where
   pub is : ws ≡ perhaps_words n (perhaps_in ws)
   pub fits : PerhapsText (8 * n) (perhaps_in ws)
 
--- the text at place p, if it is there
-abbrev pub text_there : Bool → ℕ → Store → Perhaps
-text_there b p s = pick b ((slice_index_or s p blank).value ∷ []) []
+-- where a name is, or where it goes
+abbrev pub SpotOf : List ℕ → List ℕ → Result ℕ ℕ → Type 0
+SpotOf k r (Ok p) = (p ≡ place k (items_of r)) × (found k (items_of r) ≡ true)
+SpotOf k r (Err p) = (p ≡ place k (items_of r)) × (found k (items_of r) ≡ false)
 
--- before a command: a region, and two rows for what there is after it and was before
-pub record Ready (r a b : List ℕ) : Type 0 where
-  pub held : Held r
-  pub after_wide : length a ≡ 33
-  pub before_wide : length b ≡ 33
+-- the text that is there
+abbrev pub text_there : Result ℕ ℕ → Store → Perhaps
+text_there (Ok p) s = (slice_index_or s p blank).value ∷ []
+text_there (Err p) s = []
 
--- after it: the region, which is one again with the same room, and the reply's two parts
+-- after a command: the region, which is one again with the same room, and the reply's two parts
 pub record Does (x : Command) (r r' a b : List ℕ) : Type 0 where
   pub region : r' ≡ region_do x r
   pub held : Held r'
   pub room : capacity r' ≡ capacity r
   pub after : a ≡ perhaps_words 32 (reply x (items_of r)).now
   pub before : b ≡ perhaps_words 32 (reply x (items_of r)).old
-
--- where a name is or goes, and whether it is there
-pub record SpotOf (k r : List ℕ) (p : ℕ) (b : Bool) : Type 0 where
-  pub at : p ≡ place k (items_of r)
-  pub there : b ≡ found k (items_of r)
 
 -- words of a command that a row can hold
 pub record OfCommand (ws : List ℕ) : Type 0 where

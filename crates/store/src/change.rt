@@ -1,11 +1,9 @@
 // A region changed: a text replaced, an item put in, an item taken out.
-ghost use Rattle.std.specs.Prelude.{◌≡◌, ℕ, ◌<◌, ◌≤◌, true, ◌++◌, length, slice_index_or};
-ghost use Rattle.servers.specs.Store.{pick};
+ghost use Rattle.std.specs.Prelude.{◌≡◌, ℕ, ◌<◌, ◌≤◌, ◌++◌, length, slice_index_or, IfOk, MatchResult};
 ghost use Rattle.texts.specs.Words.{text_in};
 ghost use Rattle.store.specs.Region.{blank, count, capacity, items_of, replaced_at, inserted_at, removed_at, region_put};
 ghost use Rattle.store.specs.Calls.{Held, OfText, SpotOf};
 
-use crate::find::Spot;
 use crate::index::{close_place, open_place};
 use crate::row::{INDEX, NAME, ROW, row_at};
 use texts::copy::copy_text;
@@ -26,8 +24,9 @@ pub fn write_row(row: &mut [u64], name: &[u64], text: &[u64])
     requires { (length row.old ≡ 42) × ((length name.now ≡ 9) × (length text.now ≡ 33)) }
     ensures { row.new ≡ name.now ++ text.now }
 {
-    row[0..NAME].copy_from_slice(name);
-    copy_text(&mut row[NAME..ROW], text);
+    let (front, back) = row.split_at_mut(NAME);
+    front.copy_from_slice(name);
+    copy_text(back, text);
 }
 
 // A new item as the p-th, in the first free row.
@@ -60,28 +59,27 @@ pub fn remove_at(region: &mut [u64], p: usize)
 }
 
 // A text under a name, whose spot this is.
-pub fn put_item(region: &mut [u64], spot: Spot, name: &[u64], text: &[u64])
+pub fn put_item(region: &mut [u64], spot: Result<usize, usize>, name: &[u64], text: &[u64])
     requires held { Held region.old }
     requires room { count region.old < capacity region.old }
-    requires spot { SpotOf (text_in name.now) region.old spot.at spot.there }
+    requires spot { SpotOf (text_in name.now) region.old spot }
     requires name { OfText 8 name.now }
     requires text { OfText 32 text.now }
     ensures { region.new ≡ region_put (text_in name.now) (text_in text.now) region.old }
 {
-    if spot.there {
-        replace(region, spot.at, text);
-    } else {
-        insert(region, spot.at, name, text);
+    match spot {
+        Ok(p) => replace(region, p, text),
+        Err(p) => insert(region, p, name, text),
     }
 }
 
 // Nothing at this spot.
-pub fn remove_item(region: &mut [u64], spot: Spot)
+pub fn remove_item(region: &mut [u64], spot: Result<usize, usize>)
     requires held { Held region.old }
-    requires within { spot.there ≡ true → spot.at < count region.old }
-    ensures { region.new ≡ pick spot.there (removed_at spot.at region.old) region.old }
+    requires within { IfOk spot (λ p. p < count region.old) }
+    ensures { MatchResult spot (λ p. region.new ≡ removed_at p region.old) (λ _. region.new ≡ region.old) }
 {
-    if spot.there {
-        remove_at(region, spot.at);
+    if let Ok(p) = spot {
+        remove_at(region, p);
     }
 }

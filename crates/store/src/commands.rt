@@ -4,121 +4,121 @@ ghost use Rattle.servers.specs.Store.{get, put, remove, swap, drop_if, look};
 ghost use Rattle.texts.specs.Words.{text_in, perhaps_in, perhaps_words};
 ghost use Rattle.texts.specs.Commands.{command_in};
 ghost use Rattle.store.specs.Region.{capacity, items_of};
-ghost use Rattle.store.specs.Calls.{Held, OfText, OfPerhaps, OfCommand, SpotOf, Ready, Does};
+ghost use Rattle.store.specs.Calls.{Held, OfText, OfPerhaps, OfCommand, SpotOf, Does};
 
 use crate::change::{put_item, remove_item};
-use crate::find::{Spot, find};
-use crate::reply::{tell, tell_none, tell_text};
+use crate::find::find;
+use crate::reply::{Reply, told, told_none, told_text};
 use texts::compare::same;
 
-// Finds a name, and tells what there is before the command.
-fn find_before(region: &[u64], name: &[u64], before: &mut [u64]) -> Spot
+// Where a name is or goes, and what there is before the command.
+fn find_before(region: &[u64], name: &[u64]) -> (Result<usize, usize>, [u64; 33])
     requires held { Held region.now }
-    requires wide { length before.old ≡ 33 }
     requires name { OfText 8 name.now }
-    ensures spot { SpotOf (text_in name.now) region.now result.at result.there }
-    ensures told { before.new ≡ perhaps_words 32 (look (text_in name.now) (items_of region.now)) }
+    ensures spot { SpotOf (text_in name.now) region.now result.0 }
+    ensures told { result.1 ≡ perhaps_words 32 (look (text_in name.now) (items_of region.now)) }
 {
     let spot = find(region, name);
-    tell(region, spot, before);
-    spot
+    let before = told(region, spot);
+    (spot, before)
 }
 
-pub fn do_get(region: &[u64], name: &[u64], after: &mut [u64], before: &mut [u64])
-    requires ready { Ready region.now after.old before.old }
+pub fn do_get(region: &[u64], name: &[u64]) -> Reply
+    requires held { Held region.now }
     requires name { OfText 8 name.now }
-    ensures { Does (get (text_in name.now)) region.now region.now after.new before.new }
+    ensures { Does (get (text_in name.now)) region.now region.now result.after result.before }
 {
-    let spot = find_before(region, name, before);
-    after.copy_from_slice(before);
+    let (_, before) = find_before(region, name);
+    Reply {
+        after: before,
+        before,
+    }
 }
 
-pub fn do_put(region: &mut [u64], name: &[u64], text: &[u64], after: &mut [u64], before: &mut [u64])
-    requires ready { Ready region.old after.old before.old }
+pub fn do_put(region: &mut [u64], name: &[u64], text: &[u64]) -> Reply
+    requires held { Held region.old }
     requires room { length (items_of region.old) < capacity region.old }
     requires name { OfText 8 name.now }
     requires text { OfText 32 text.now }
     ensures { Does (put (text_in name.now) (text_in text.now)) region.old region.new
-        after.new before.new }
+        result.after result.before }
 {
-    let spot = find_before(region, name, before);
+    let (spot, before) = find_before(region, name);
     put_item(region, spot, name, text);
-    tell_text(after, text); // whatever there was
+    let after = told_text(text); // whatever there was
+    Reply { after, before }
 }
 
-pub fn do_remove(region: &mut [u64], name: &[u64], after: &mut [u64], before: &mut [u64])
-    requires ready { Ready region.old after.old before.old }
+pub fn do_remove(region: &mut [u64], name: &[u64]) -> Reply
+    requires held { Held region.old }
     requires name { OfText 8 name.now }
-    ensures { Does (remove (text_in name.now)) region.old region.new after.new before.new }
+    ensures { Does (remove (text_in name.now)) region.old region.new result.after result.before }
 {
-    let spot = find_before(region, name, before);
+    let (spot, before) = find_before(region, name);
     remove_item(region, spot);
-    tell_none(after);
+    let after = told_none();
+    Reply { after, before }
 }
 
 // If there is just what is expected, a text or none, it becomes this text.
-pub fn do_swap(
-    region: &mut [u64],
-    name: &[u64],
-    expected: &[u64],
-    text: &[u64],
-    after: &mut [u64],
-    before: &mut [u64],
-)
-    requires ready { Ready region.old after.old before.old }
+pub fn do_swap(region: &mut [u64], name: &[u64], expected: &[u64], text: &[u64]) -> Reply
+    requires held { Held region.old }
     requires room { length (items_of region.old) < capacity region.old }
     requires name { OfText 8 name.now }
     requires expected { OfPerhaps 32 expected.now }
     requires text { OfText 32 text.now }
-    ensures { Does (swap (text_in name.now) (perhaps_in expected.now) (text_in text.now)) region.old region.new after.new before.new }
+    ensures { Does (swap (text_in name.now) (perhaps_in expected.now) (text_in text.now)) region.old region.new
+        result.after result.before }
 {
-    let spot = find_before(region, name, before);
-    if same(before, expected) {
+    let (spot, before) = find_before(region, name);
+    if same(&before, expected) {
         put_item(region, spot, name, text);
-        tell_text(after, text);
+        let after = told_text(text);
+        Reply { after, before }
     } else {
-        after.copy_from_slice(before);
+        Reply {
+            after: before,
+            before,
+        }
     }
 }
 
 // If there is just this text, it goes.
-pub fn do_drop_if(
-    region: &mut [u64],
-    name: &[u64],
-    text: &[u64],
-    after: &mut [u64],
-    before: &mut [u64],
-)
-    requires ready { Ready region.old after.old before.old }
+pub fn do_drop_if(region: &mut [u64], name: &[u64], text: &[u64]) -> Reply
+    requires held { Held region.old }
     requires name { OfText 8 name.now }
     requires text { OfText 32 text.now }
-    ensures { Does (drop_if (text_in name.now) (text_in text.now)) region.old region.new after.new before.new }
+    ensures { Does (drop_if (text_in name.now) (text_in text.now)) region.old region.new result.after result.before }
 {
-    let spot = find_before(region, name, before);
-    tell_text(after, text);
-    if same(before, after) {
+    let (spot, before) = find_before(region, name);
+    let given = told_text(text);
+    if same(&before, &given) {
         remove_item(region, spot);
-        tell_none(after);
+        let after = told_none();
+        Reply { after, before }
     } else {
-        after.copy_from_slice(before);
+        Reply {
+            after: before,
+            before,
+        }
     }
 }
 
 // A command by its words, as they stand in a row of a log.
-pub fn do_command(region: &mut [u64], command: &[u64], after: &mut [u64], before: &mut [u64])
-    requires ready { Ready region.old after.old before.old }
+pub fn do_command(region: &mut [u64], command: &[u64]) -> Reply
+    requires held { Held region.old }
     requires room { length (items_of region.old) < capacity region.old }
     requires command { OfCommand command.now }
-    ensures { Does (command_in command.now) region.old region.new after.new before.new }
+    ensures { Does (command_in command.now) region.old region.new result.after result.before }
 {
     let name = &command[1..10];
     let expected = &command[10..43];
     let text = &command[43..76];
     match command[0] {
-        0 => do_get(region, name, after, before),
-        1 => do_put(region, name, text, after, before),
-        2 => do_remove(region, name, after, before),
-        3 => do_swap(region, name, expected, text, after, before),
-        _ => do_drop_if(region, name, text, after, before),
+        0 => do_get(region, name),
+        1 => do_put(region, name, text),
+        2 => do_remove(region, name),
+        3 => do_swap(region, name, expected, text),
+        _ => do_drop_if(region, name, text),
     }
 }

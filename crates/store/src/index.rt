@@ -1,4 +1,4 @@
-// The index of row numbers: one of them moved to another place, the others shifted by one in a single pass.
+// The index of row numbers: one of them moved to another place, the others shifted by one.
 ghost use Rattle.std.specs.Prelude.{◌≡◌, ℕ, ◌<◌, ◌≤◌, length};
 ghost use Rattle.store.specs.Region.{opened, closed};
 
@@ -8,13 +8,7 @@ pub fn open_place(index: &mut [u64], p: usize, c: usize)
     requires free { c < length index.old }
     ensures { index.new ≡ opened p c index.old }
 {
-    let row = index[c];
-    let mut i = c;
-    while i > p {
-        index[i] = index[i - 1];
-        i -= 1;
-    }
-    index[p] = row;
+    index[p..c + 1].rotate_right(1);
 }
 
 // Puts the row at p, one of c used ones, behind the others, where it is the first free one.
@@ -23,9 +17,5 @@ pub fn close_place(index: &mut [u64], p: usize, c: usize)
     requires used { c ≤ length index.old }
     ensures { index.new ≡ closed p c index.old }
 {
-    let row = index[p];
-    for i in p + 1..c {
-        index[i - 1] = index[i];
-    }
-    index[c - 1] = row;
+    index[p..c].rotate_left(1);
 }

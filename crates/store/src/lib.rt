@@ -13,8 +13,6 @@ pub mod row;
 pub mod start;
 
 // What a region of words owes of any command.
-pub fn region_stands() -> u8
+pub fn region_stands()
     ensures { RegionLaws }
-{
-    0
-}
+{}

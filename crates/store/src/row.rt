@@ -4,10 +4,12 @@ ghost use Rattle.texts.specs.Words.{text_words};
 ghost use Rattle.store.specs.Region.{blank, count, capacity, index_of, items_of};
 ghost use Rattle.store.specs.Calls.{Held};
 
-// Where the index begins; the words of a name; the words of a row.
+// Where the index begins; the words of a name, of a text and of a row.
 pub const INDEX: usize = 2;
 
 pub const NAME: usize = 9;
+
+pub const TEXT: usize = 33;
 
 pub const ROW: usize = 42;
 

@@ -6,8 +6,8 @@ ghost use Rattle.store.specs.Calls.{Held};
 fn number_rows(index: &mut [u64])
     ensures { index.new ≡ numbers 0 (length index.old) }
 {
-    for i in 0..index.len() {
-        index[i] = i as u64;
+    for (i, row) in index.iter_mut().enumerate() {
+        *row = i as u64;
     }
 }
 

@@ -1,13 +1,14 @@
 -- What the code's steps leave: one word more, a padded last word, parts put together.
-use Rattle.std.proofs.Common.{◌≡◌, ℕ, zero, suc, ◌+◌, ◌-◌, ◌*◌, ◌^◌, ◌<◌, ◌≤◌, Bool, true, false, ◌&&◌, ◌||◌, eqb, ltb, List, [], ◌∷◌, ◌++◌, length, get_or, take, drop, set, replicate, sym, refl, ap, ◌∙◌, arith}
+use Rattle.std.proofs.Common.{◌≡◌, ℕ, zero, suc, ◌+◌, ◌-◌, ◌*◌, ◌^◌, ◌<◌, ◌≤◌, Bool, true, false, ◌&&◌, eqb, List, [], ◌∷◌, ◌++◌, length, map, get_or, take, drop, set, replicate, sym, refl, ap, ◌∙◌, arith}
 use borrow.Rule.Slice.PartMut.{put_mid, post_of}
 use Rattle.std.proofs.lemmas.List.{length-append, length-take-le, append-nil, append_assoc, drop-drop, drop_all, take_at, take_more, drop_more, get_or-drop, take-append-drop, length-drop, take-append-le}
-use Rattle.std.proofs.lemmas.Bool.{eq-eqb, ne_eqb, le-ltb}
+use Rattle.std.proofs.lemmas.Bool.Decides.{nat_tests}
+use Rattle.std.specs.Simd.{first_chunks}
 use Rattle.servers.specs.Store.{same_text}
 use Rattle.texts.specs.Words.{number_be, bytes_be, cells, unpacked}
 use Rattle.texts.specs.Order.{less_cells}
 use Rattle.texts.proofs.Bytes.{length_bytes_be}
-use Rattle.texts.proofs.Cells.{length_unpacked, cells_add, cells_nil}
+use Rattle.texts.proofs.Cells.{length_unpacked, cells_nil}
 
 -- one digit of a number
 number_drop : (n k : ℕ) (bs : List ℕ) → number_be (suc n) (drop k bs) ≡ get_or bs k 0 * 256 ^ n + number_be n (drop (k + 1) bs)
@@ -46,16 +47,18 @@ number_padded zero k t = refl
 number_padded (suc n) k [] = number_zeros (suc n) k
 number_padded (suc n) k (x ∷ t) = rw (number_padded n k t) refl
 
-pub cells_more : (k : ℕ) (t : List ℕ) → cells (k + 1) t ≡ cells k t ++ (number_be 8 (drop (8 * k) t) ∷ [])
+-- the words of whole chunks of eight bytes
+pub cells_whole : (k n : ℕ) (t : List ℕ) → k ≤ n → map (number_be 8) (take k (first_chunks 8 n t)) ≡ cells k t
 unfolding cells
-cells_more k t = cells_add k 1 t
+cells_whole zero n t h = refl
+cells_whole (suc k) zero t h = absurd (omega arith)
+cells_whole (suc k) (suc n) t h = rw (number_take 8 t, cells_whole k n (drop 8 t) (omega arith)) refl
 
 -- the last word with bytes, and zeros after it
-pub cells_short : (n : ℕ) (t : List ℕ) → 0 < n → length t < 8 → number_be 8 t ∷ replicate (n - 1) 0 ≡ cells n t
+pub cells_short : (n : ℕ) (t : List ℕ) → 0 < n → length t < 8 → set (replicate n 0) 0 (number_be 8 t) ≡ cells n t
 unfolding cells
 cells_short zero t h k = absurd (omega arith)
-cells_short (suc n) t h k =
-    let m : suc n - 1 ≡ n = omega arith in rw (m, drop_all 8 t (omega arith), cells_nil n) refl
+cells_short (suc n) t h k = rw (drop_all 8 t (omega arith), cells_nil n) refl
 
 pub zeros_are : (n : ℕ) → 0 < n → replicate n 0 ≡ 0 ∷ cells (n - 1) []
 zeros_are zero h = absurd (omega arith)
@@ -74,12 +77,9 @@ two_parts a k m xs us vs l h p n =
     drop-drop k a (us ++ post_of 0 m xs) ∙ drop_all (a + k) (us ++ post_of 0 m xs) (omega arith) in
     rw (t, d, append-nil vs) refl
 
--- how long `&s[a..]` and `&s[0..a]` are
+-- how long `&s[a..]` is
 pub long_from : {X : Type 0} (xs : List X) (a : ℕ) → length (take (length xs - a) (drop a xs)) ≡ length xs - a
 long_from xs a = let d = length-drop a xs in length-take-le (length xs - a) (drop a xs) (omega arith)
-
-pub long_to : {X : Type 0} (xs : List X) (a : ℕ) → a ≤ length xs → length (take (a - 0) (drop 0 xs)) ≡ a
-long_to xs a h = let z : a - 0 ≡ a = omega arith in rw z (length-take-le a xs h)
 
 -- a first word, and the rest of the row
 pub head_and_rest : (v : ℕ) (xs ys zs : List ℕ) → 0 < length xs → ys ≡ zs → length ys ≡ length xs - 1
@@ -128,59 +128,31 @@ unpacked_part ws k r h s =
     ∙ ap (λ (zs : List ℕ). unpacked (take k ws) ++ zs)
     (ap (take r) d ∙ take-append-le r (bytes_be 8 (get_or ws k 0)) (unpacked (drop (k + 1) ws)) (omega arith)))
 
--- a step of each comparison
-less_cells_step : (a b : List ℕ) (i : ℕ) (e : Bool) → i < length a → i < length b
-    → less_cells (drop i a) (drop i b) e
-    ≡ (ltb (get_or a i 0) (get_or b i 0) || (eqb (get_or a i 0) (get_or b i 0) && less_cells (drop (i + 1) a) (drop (i + 1) b) e))
+-- a pair compared, and the pairs after it
+pub less_here : (x y : ℕ) (xs ys us vs : List ℕ) (e : Bool) → us ≡ x ∷ xs → vs ≡ y ∷ ys → x < y → less_cells us vs e ≡ true
 unfolding less_cells
-less_cells_step a b i e h k = rw (drop_more a i 0 h, drop_more b i 0 k) refl
+less_here x y xs ys us vs e f g h = rw (f, g) (grind (arith, nat_tests))
 
-pub less_cells_tell : (a b : List ℕ) (i : ℕ) (e : Bool) → i < length a → i < length b → (get_or a i 0 ≡ get_or b i 0 → ⊥)
-    → less_cells (drop i a) (drop i b) e ≡ ltb (get_or a i 0) (get_or b i 0)
-less_cells_tell a b i e h k d =
-    let q : eqb (get_or a i 0) (get_or b i 0) ≡ false = ne_eqb (get_or a i 0) (get_or b i 0) d in
-    less_cells_step a b i e h k ∙ rw q (or_none (ltb (get_or a i 0) (get_or b i 0)))
-  where
-    or_none : (x : Bool) → (x || false) ≡ x
-    or_none true = refl
-    or_none false = refl
-
-pub less_cells_next : (a b : List ℕ) (i : ℕ) (e : Bool) → i < length a → i < length b → get_or a i 0 ≡ get_or b i 0
-    → less_cells (drop i a) (drop i b) e ≡ less_cells (drop (i + 1) a) (drop (i + 1) b) e
-less_cells_next a b i e h k d =
-    let q : eqb (get_or a i 0) (get_or b i 0) ≡ true = eq-eqb (get_or a i 0) (get_or b i 0) d in
-    let l : ltb (get_or a i 0) (get_or b i 0) ≡ false = le-ltb (get_or a i 0) (get_or b i 0) (omega arith) in
-    less_cells_step a b i e h k ∙ rw (q, l) refl
-
-pub less_cells_end : (a b : List ℕ) (i : ℕ) (e : Bool) → length a ≤ i → less_cells (drop i a) (drop i b) e ≡ e
+pub less_not : (x y : ℕ) (xs ys us vs : List ℕ) (e : Bool) → us ≡ x ∷ xs → vs ≡ y ∷ ys → y < x → less_cells us vs e ≡ false
 unfolding less_cells
-less_cells_end a b i e h = rw (drop_all i a h) refl
+less_not x y xs ys us vs e f g h = rw (f, g) (grind (arith, nat_tests))
 
-same_step : (a b : List ℕ) (i : ℕ) → i < length a → i < length b
-    → same_text (drop i a) (drop i b) ≡ (eqb (get_or a i 0) (get_or b i 0) && same_text (drop (i + 1) a) (drop (i + 1) b))
+pub less_next : (x y : ℕ) (xs ys us vs : List ℕ) (e : Bool) → us ≡ x ∷ xs → vs ≡ y ∷ ys → x ≡ y
+    → less_cells us vs e ≡ less_cells xs ys e
+unfolding less_cells
+less_next x y xs ys us vs e f g h = rw (f, g) (grind (arith, nat_tests))
+
+pub less_end : (us vs : List ℕ) (e : Bool) → us ≡ [] → less_cells us vs e ≡ e
+unfolding less_cells
+less_end us vs e f = rw f refl
+
+pub same_next : (x y : ℕ) (xs ys us vs : List ℕ) (so : Bool) → us ≡ x ∷ xs → vs ≡ y ∷ ys
+    → ((so && eqb x y) && same_text xs ys) ≡ (so && same_text us vs)
 unfolding same_text
-same_step a b i h k = rw (drop_more a i 0 h, drop_more b i 0 k) refl
+same_next x y xs ys us vs true f g = rw (f, g) refl
+same_next x y xs ys us vs false f g = refl
 
-and_assoc : (x y z : Bool) → ((x && y) && z) ≡ (x && (y && z))
-and_assoc true y z = refl
-and_assoc false y z = refl
-
--- one word more, whatever came before
-pub same_all : (a b : List ℕ) (i : ℕ) (so : Bool) → i < length a → i < length b
-    → ((so && eqb (get_or a i 0) (get_or b i 0)) && same_text (drop (i + 1) a) (drop (i + 1) b)) ≡ (so && same_text (drop i a) (drop i b))
-same_all a b i so h k =
-    and_assoc so (eqb (get_or a i 0) (get_or b i 0)) (same_text (drop (i + 1) a) (drop (i + 1) b))
-    ∙ ap (λ (z : Bool). so && z) (sym (same_step a b i h k))
-
--- a word that tells the rows apart, and one that doesn't
-pub same_not : (a b : List ℕ) (i : ℕ) → i < length a → i < length b → (get_or a i 0 ≡ get_or b i 0 → ⊥) → same_text (drop i a)
-    (drop i b) ≡ false
-same_not a b i h k d = same_step a b i h k ∙ rw (ne_eqb (get_or a i 0) (get_or b i 0) d) refl
-
-pub same_next : (a b : List ℕ) (i : ℕ) → i < length a → i < length b → get_or a i 0 ≡ get_or b i 0
-    → same_text (drop i a) (drop i b) ≡ same_text (drop (i + 1) a) (drop (i + 1) b)
-same_next a b i h k d = same_step a b i h k ∙ rw (eq-eqb (get_or a i 0) (get_or b i 0) d) refl
-
-pub same_end : (a b : List ℕ) (i : ℕ) → length a ≤ i → length b ≤ i → same_text (drop i a) (drop i b) ≡ true
+pub same_end : (us vs : List ℕ) (so : Bool) → us ≡ [] → vs ≡ [] → so ≡ (so && same_text us vs)
 unfolding same_text
-same_end a b i h k = rw (drop_all i a h, drop_all i b k) refl
+same_end us vs true f g = rw (f, g) refl
+same_end us vs false f g = refl

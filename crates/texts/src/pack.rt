@@ -1,5 +1,5 @@
 // Bytes into words: each whole word at once, the last part by a padded copy, the words after it zero.
-ghost use Rattle.std.specs.Prelude.{◌≡◌, ℕ, ◌+◌, ◌-◌, ◌*◌, ◌<◌, ◌≤◌, List, [], ◌∷◌, length};
+ghost use Rattle.std.specs.Prelude.{◌≡◌, ℕ, ◌+◌, ◌-◌, ◌<◌, ◌≤◌, List, [], ◌∷◌, length, map, take};
 ghost use Rattle.texts.specs.Means.{perhaps_of};
 ghost use Rattle.texts.specs.Words.{number_be, cells, text_words, perhaps_words, word, All};
 
@@ -9,32 +9,23 @@ fn number8(bytes: [u8; 8]) -> u64
     u64::from_be_bytes(bytes)
 }
 
-// The word of the first eight bytes.
-fn front_word(text: &[u8]) -> u64
-    requires { 8 ≤ length text.now }
-    ensures { result ≡ number_be 8 text.now }
-{
-    let front: &[u8; 8] = text.first_chunk::<8>().unwrap();
-    number8(*front)
-}
-
 // The word of less than eight bytes.
 fn part_word(text: &[u8]) -> u64
     requires { length text.now < 8 }
     ensures { result ≡ number_be 8 text.now }
 {
     let mut bytes = [0u8; 8];
-    let n = text.len();
-    bytes[0..n].copy_from_slice(text);
+    bytes[..text.len()].copy_from_slice(text);
     number8(bytes)
 }
 
-fn pack_whole(row: &mut [u64], text: &[u8])
-    requires { 8 * length row.old ≤ length text.now }
-    ensures { row.new ≡ cells (length row.old) text.now }
+// By an index: of words written through `zip` no contract tells afterwards.
+fn pack_whole(row: &mut [u64], chunks: &[[u8; 8]])
+    requires { length row.old ≤ length chunks.now }
+    ensures { row.new ≡ map (number_be 8) (take (length row.old) chunks.now) }
 {
-    for k in 0..row.len() {
-        row[k] = front_word(&text[8 * k..]);
+    for (k, word) in row.iter_mut().enumerate() {
+        *word = number8(chunks[k]);
     }
 }
 
@@ -42,7 +33,7 @@ fn pack_rest(row: &mut [u64], text: &[u8])
     requires { (length text.now < 8) × (0 < length row.old) }
     ensures { row.new ≡ cells (length row.old) text.now }
 {
-    row[1..].fill(0);
+    row.fill(0);
     row[0] = part_word(text);
 }
 
@@ -50,13 +41,15 @@ fn pack_rest(row: &mut [u64], text: &[u8])
 pub fn pack(row: &mut [u64], text: &[u8])
     ensures { row.new ≡ cells (length row.old) text.now }
 {
-    let whole = text.len() / 8;
+    let (chunks, rest) = text.as_chunks::<8>();
+    let whole = chunks.len();
     if row.len() <= whole {
-        pack_whole(row, text);
-        return;
+        pack_whole(row, chunks);
+    } else {
+        let (front, back) = row.split_at_mut(whole);
+        pack_whole(front, chunks);
+        pack_rest(back, rest);
     }
-    pack_whole(&mut row[0..whole], text);
-    pack_rest(&mut row[whole..], &text[8 * whole..]);
 }
 
 // A text: its length, and its bytes.
@@ -81,8 +74,8 @@ pub fn write_some(row: &mut [u64], text: &[u8])
     requires { (0 < length row.old) × (length text.now + 1 < word) }
     ensures { row.new ≡ perhaps_words (length row.old - 1) (text.now ∷ []) }
 {
-    pack(&mut row[1..], text);
-    row[0] = text.len() as u64 + 1;
+    write_text(row, text);
+    row[0] += 1;
 }
 
 // A text or none.

@@ -8,12 +8,13 @@ fn bytes8(x: u64) -> [u8; 8]
     x.to_be_bytes()
 }
 
+// By an index: of bytes written through `as_chunks_mut` or `chunks_exact_mut` no contract tells afterwards.
 fn unpack_whole(out: &mut [u8], row: &[u64])
     requires { length out.old ≡ 8 * length row.now }
     ensures { out.new ≡ unpacked row.now }
 {
-    for k in 0..row.len() {
-        out[8 * k..8 * k + 8].copy_from_slice(&bytes8(row[k]));
+    for (k, word) in row.iter().enumerate() {
+        out[8 * k..8 * k + 8].copy_from_slice(&bytes8(*word));
     }
 }
 
@@ -24,9 +25,9 @@ pub fn unpack(out: &mut [u8], row: &[u64])
 {
     let n = out.len();
     let whole = n / 8;
-    unpack_whole(&mut out[0..8 * whole], &row[0..whole]);
+    let (front, back) = out.split_at_mut(8 * whole);
+    unpack_whole(front, &row[..whole]);
     if 8 * whole < n {
-        let last = bytes8(row[whole]);
-        out[8 * whole..n].copy_from_slice(&last[0..n - 8 * whole]);
+        back.copy_from_slice(&bytes8(row[whole])[..back.len()]);
     }
 }

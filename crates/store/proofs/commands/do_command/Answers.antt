@@ -12,24 +12,24 @@ pub slice_bounds-text-end : goal.slice_bounds-text-end
 slice_bounds-text-end c = let l = command_long c.args.command.now c.requires.command in omega arith
 
 pub do_get-requires : goal.do_get-requires
-do_get-requires c = record { ready = c.requires.ready; name = command_name c.args.command.now c.requires.command }
+do_get-requires c = record { held = c.requires.held; name = command_name c.args.command.now c.requires.command }
 
 pub do_put-requires : goal.do_put-requires
 do_put-requires c =
     record {
-      ready = c.requires.ready;
+      held = c.requires.held;
       room = c.requires.room;
       name = command_name c.args.command.now c.requires.command;
       text = command_text c.args.command.now c.requires.command;
     }
 
 pub do_remove-requires : goal.do_remove-requires
-do_remove-requires c = record { ready = c.requires.ready; name = command_name c.args.command.now c.requires.command }
+do_remove-requires c = record { held = c.requires.held; name = command_name c.args.command.now c.requires.command }
 
 pub do_swap-requires : goal.do_swap-requires
 do_swap-requires c =
     record {
-      ready = c.requires.ready;
+      held = c.requires.held;
       room = c.requires.room;
       name = command_name c.args.command.now c.requires.command;
       expected = command_expects c.args.command.now c.requires.command;
@@ -39,7 +39,7 @@ do_swap-requires c =
 pub do_drop_if-requires : goal.do_drop_if-requires
 do_drop_if-requires c =
     record {
-      ready = c.requires.ready;
+      held = c.requires.held;
       name = command_name c.args.command.now c.requires.command;
       text = command_text c.args.command.now c.requires.command;
     }

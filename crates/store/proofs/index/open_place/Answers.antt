@@ -1,19 +1,11 @@
-use Rattle.std.proofs.Common.{◌≡◌, arith}
-use Rattle.store.proofs.Shifts.{right_none, right_more, right_all}
+use Rattle.std.proofs.Common.{◌≡◌, ℕ, ◌+◌, ◌-◌, length, take, drop, arith}
+use Rattle.std.proofs.lemmas.List.{length-take-le, length-drop}
+use Rattle.store.proofs.Shifts.{opened_is}
 use Rattle.store.proofs.index.open_place.Goals as goal
-
-pub loop-i-init : goal.loop-i-init
-loop-i-init c = (omega arith, omega arith, right_none c.args.c c.args.index.now)
-
-pub loop-i-preserved : goal.loop-i-preserved
-loop-i-preserved c = (
-  omega arith,
-  omega arith,
-  right_more c.loop-i.i c.args.c c.args.index.now c.loop-i.index (omega arith) (omega arith) (omega arith)
-      c.loop-i.invariant.2,
-)
 
 pub returns : goal.returns
 returns c =
-    let i : c.loop-i.i ≡ c.args.p = omega arith in
-    right_all c.args.p c.args.c c.args.index.now c.loop-i.index (omega arith) (omega arith) (rw i at c.loop-i.invariant.2)
+    let d = length-drop c.args.p c.args.index.now in
+    let l = length-take-le (c.args.c + 1 - c.args.p) (drop c.args.p c.args.index.now) (omega arith) in
+    opened_is c.args.p c.args.c (c.args.c + 1 - c.args.p) _ c.args.index.now c.rotate_right.new.self (omega arith) (omega arith) (omega arith)
+    (omega arith) c.rotate_right.ensures.after

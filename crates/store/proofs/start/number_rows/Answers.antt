@@ -1,5 +1,5 @@
-use Rattle.std.proofs.Common.{◌≡◌, length, refl, arith}
-use Rattle.std.proofs.lemmas.List.{take_more_set, take_all}
+use Rattle.std.proofs.Common.{refl, arith}
+use Rattle.std.proofs.lemmas.List.{take_more_set}
 use Rattle.store.specs.Region.{numbers}
 use Rattle.store.proofs.RowNumbers.{numbers_more}
 use Rattle.store.proofs.start.number_rows.Goals as goal
@@ -12,10 +12,4 @@ pub loop-i-preserved : goal.loop-i-preserved
 loop-i-preserved c =
     let a = take_more_set c.loop-i.index c.loop-i.i c.loop-i.i (omega arith) in
     let b = numbers_more 0 c.loop-i.i c.loop-i.i (omega arith) in
-    cc
-
-pub returns : goal.returns
-returns c =
-    let i : c.loop-i.i ≡ length c.args.index.now = omega arith in
-    let a = take_all c.loop-i.i c.loop-i.index (omega arith) in
     cc

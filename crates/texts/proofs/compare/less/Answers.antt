@@ -1,33 +1,27 @@
-use Rattle.std.proofs.Common.{Bool, ltb, get_or, sym, ◌∙◌, arith}
-use Rattle.std.proofs.lemmas.Bool.{lt-ltb, le-ltb}
-use Rattle.texts.proofs.Parts.{less_cells_tell, less_cells_next, less_cells_end}
+use Rattle.std.proofs.Common.{length, sym, ap, ◌∙◌, arith}
+use Rattle.std.proofs.lemmas.Slice.Zip.{Zip-more}
+use Rattle.std.proofs.lemmas.Iterator.{empty_from_Zip}
+use Rattle.texts.proofs.Parts.{less_here, less_not, less_next, less_end}
 use Rattle.texts.proofs.compare.less.Goals as goal
 
-pub returns-then-a-i : goal.returns-then-a-i
-returns-then-a-i c =
-    let e : Bool = ltb (get_or c.args.a.now 0 0) (get_or c.args.b.now 0 0) in
-    let before = c.if-a-i.true in
-    sym (lt-ltb (get_or c.args.a.now c.loop-i.i 0) (get_or c.args.b.now c.loop-i.i 0) before)
-    ∙ (sym (less_cells_tell c.args.a.now c.args.b.now c.loop-i.i e (omega arith) (omega arith) (λ q. omega arith))
-    ∙ c.loop-i.invariant)
+pub returns-then-x-y : goal.returns-then-x-y
+returns-then-x-y c =
+    let m = Zip-more c.loop-x.x-iterator c.next.new.self c.next.result (c.in-Some.x, c.in-Some.y) c.in-Some.is c.next.ensures.steps in
+    sym (less_here _ _ _ _ _ _ _ m.0 m.1 c.if-x-y.true) ∙ c.loop-x.invariant.1
 
-pub returns-then-b-i : goal.returns-then-b-i
-returns-then-b-i c =
-    let e : Bool = ltb (get_or c.args.a.now 0 0) (get_or c.args.b.now 0 0) in
-    let after = c.if-b-i.true in
-    sym (le-ltb (get_or c.args.a.now c.loop-i.i 0) (get_or c.args.b.now c.loop-i.i 0) (omega arith))
-    ∙ (sym (less_cells_tell c.args.a.now c.args.b.now c.loop-i.i e (omega arith) (omega arith) (λ q. omega arith))
-    ∙ c.loop-i.invariant)
+pub returns-then-y-x : goal.returns-then-y-x
+returns-then-y-x c =
+    let m = Zip-more c.loop-x.x-iterator c.next.new.self c.next.result (c.in-Some.x, c.in-Some.y) c.in-Some.is c.next.ensures.steps in
+    sym (less_not _ _ _ _ _ _ _ m.0 m.1 c.if-y-x.true) ∙ c.loop-x.invariant.1
 
-pub loop-i-preserved : goal.loop-i-preserved
-loop-i-preserved c =
-    let e : Bool = ltb (get_or c.args.a.now 0 0) (get_or c.args.b.now 0 0) in
-    let not_before = c.if-a-i.false in
-    let not_after = c.if-b-i.false in
-    sym (less_cells_next c.args.a.now c.args.b.now c.loop-i.i e (omega arith) (omega arith) (omega arith))
-    ∙ c.loop-i.invariant
+pub loop-x-preserved : goal.loop-x-preserved
+loop-x-preserved c =
+    let m = Zip-more c.loop-x.x-iterator c.next.new.self c.next.result (c.in-Some.x, c.in-Some.y) c.in-Some.is c.next.ensures.steps in
+    let not_before = c.if-x-y.false in
+    let not_after = c.if-y-x.false in
+    (omega (arith, ap length m.0, ap length m.1), sym (less_next _ _ _ _ _ _ _ m.0 m.1 (omega arith)) ∙ c.loop-x.invariant.1)
 
 pub returns : goal.returns
 returns c =
-    let e : Bool = ltb (get_or c.args.a.now 0 0) (get_or c.args.b.now 0 0) in
-    sym (less_cells_end c.args.a.now c.args.b.now c.loop-i.i e (omega arith)) ∙ c.loop-i.invariant
+    let m = empty_from_Zip c.loop-x.x-iterator c.next.new.self c.next.result c.in-None.is c.next.ensures.steps c.loop-x.invariant.0 in
+    sym (less_end _ _ _ m.0) ∙ c.loop-x.invariant.1

@@ -1,27 +1,28 @@
-use Rattle.std.proofs.Common.{◌≡◌, ℕ, ◌+◌, ◌-◌, ◌*◌, ◌/◌, List, ◌++◌, length, take, drop, sym, ap, ◌∙◌, arith}
-use borrow.Rule.Slice.PartMut.{post_of}
-use Rattle.std.proofs.lemmas.List.{take_rest}
+use Rattle.std.proofs.Common.{◌≡◌, ℕ, ◌+◌, ◌*◌, ◌/◌, List, length, drop, sym, refl, ◌∙◌, arith}
 use Rattle.texts.specs.Words.{cells}
-use Rattle.texts.proofs.Cells.{length_cells, cells_add}
-use Rattle.texts.proofs.Parts.{two_long, two_parts, long_from, long_to}
+use Rattle.texts.proofs.Cells.{cells_add}
+use Rattle.texts.proofs.Parts.{cells_whole}
 use Rattle.texts.proofs.pack.pack.Goals as goal
 
-pub returns : goal.returns
-returns c =
+pub returns-then-row-whole : goal.returns-then-row-whole
+returns-then-row-whole c =
+    let f = c.as_chunks.ensures.front in
+    c.pack_whole.ensures ∙ rw f (cells_whole _ _ c.args.text.now (omega arith))
+
+pub returns-else-row-whole : goal.returns-else-row-whole
+returns-else-row-whole c =
     let t : List ℕ = c.args.text.now in
-    let row : List ℕ = c.args.row.now in
-    let w : ℕ = length c.args.text.now / 8 in
-    let us : List ℕ = c.pack_whole-2.new.row in
-    let vs : List ℕ = c.pack_rest.new.row in
-    let a : us ≡ cells w t = c.pack_whole-2.ensures ∙ ap (λ (n : ℕ). cells n t) (long_to row w (omega arith)) in
-    let l : length us ≡ w = ap length a ∙ length_cells w t in
-    let z : w - 0 ≡ w = omega arith in
-    let n : length (us ++ post_of 0 (w - 0) row) ≡ length row = two_long (w - 0) row us (omega arith) (omega arith) in
-    let b : vs ≡ cells (length row - w) (drop (8 * w) t) =
-    c.pack_rest.ensures
-    ∙ (ap (λ (xs : List ℕ). cells (length (take (length (us ++ post_of 0 (w - 0) row) - w) (drop w (us ++ post_of 0 (w - 0) row)))) xs)
-    (take_rest t (8 * w))
-    ∙ ap (λ (k : ℕ). cells k (drop (8 * w) t)) (long_from (us ++ post_of 0 (w - 0) row) w ∙ ap (λ (k : ℕ). k - w) n)) in
-    let s : w + (length row - w) ≡ length row = omega arith in
-    two_parts w (length (us ++ post_of 0 (w - 0) row) - w) (w - 0) row us vs l (omega arith) (omega arith) (omega arith)
-    ∙ (rw (a, b) (sym (cells_add w (length row - w) t)) ∙ ap (λ (k : ℕ). cells k t) s)
+    let w : ℕ = length t / 8 in
+    let l = c.as_chunks.ensures.front_len in
+    let front = c.split_at_mut-front.ensures.front_len in
+    let back = c.split_at_mut-front.ensures.back_len in
+    let f = c.as_chunks.ensures.front in
+    let b = c.as_chunks.ensures.back in
+    let k : length c.split_at_mut-front.result.0.now ≡ w = omega arith in
+    let m : w * 8 ≡ 8 * w = omega arith in
+    let a : c.pack_whole-else-row-whole.new.row ≡ cells w t =
+    c.pack_whole-else-row-whole.ensures ∙ rw (f, k) (cells_whole w w t (omega arith)) in
+    let r : c.pack_rest.new.row ≡ cells (length c.split_at_mut-front.result.1.now) (drop (8 * w) t) =
+    c.pack_rest.ensures ∙ rw (b, m) refl in
+    let s : length c.args.row.now ≡ w + length c.split_at_mut-front.result.1.now = omega arith in
+    rw (a, r, s) (sym (cells_add w (length c.split_at_mut-front.result.1.now) t))

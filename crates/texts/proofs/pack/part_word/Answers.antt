@@ -1,4 +1,4 @@
-use Rattle.std.proofs.Common.{◌≡◌, ℕ, ◌-◌, length, ◌∙◌, arith}
+use Rattle.std.proofs.Common.{ℕ, ◌-◌, length, ◌∙◌}
 use Rattle.std.proofs.lemmas.List.{drop-replicate}
 use Rattle.texts.proofs.Parts.{number_padded}
 use Rattle.texts.proofs.pack.part_word.Goals as goal
@@ -8,5 +8,4 @@ returns c =
     let f = c.copy_from_slice.ensures.after in
     let g = number_padded 8 (8 - length c.args.text.now) c.args.text.now in
     let d = drop-replicate {X = ℕ} (length c.args.text.now) 8 0 in
-    let z : length c.args.text.now - 0 ≡ length c.args.text.now = omega arith in
-    c.number8.ensures ∙ simp (f, z, d) g
+    c.number8.ensures ∙ simp (f, d) g

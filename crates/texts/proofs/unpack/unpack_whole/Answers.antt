@@ -1,5 +1,4 @@
 use Rattle.std.proofs.Common.{◌≡◌, ℕ, ◌+◌, ◌-◌, ◌*◌, List, length, get_or, sym, refl, ap, ◌∙◌, arith}
-use Rattle.std.proofs.lemmas.List.{take_all}
 use Rattle.std.proofs.lemmas.Slice.{take-put_mid}
 use Rattle.texts.specs.Words.{bytes_be, unpacked}
 use Rattle.texts.proofs.Bytes.{length_bytes_be}
@@ -19,10 +18,3 @@ loop-k-preserved c =
     let p = take-put_mid (8 * k) (8 * k + 8 - 8 * k) c.loop-k.out ys (8 * (k + 1)) (omega arith) (omega arith) in
     let u = unpacked_more c.args.row.now k (omega arith) in
     p ∙ (rw (c.loop-k.invariant, b) refl ∙ sym u)
-
-pub returns : goal.returns
-returns c =
-    let i : c.loop-k.k ≡ length c.args.row.now = omega arith in
-    let a = take_all (8 * c.loop-k.k) c.loop-k.out (omega arith) in
-    let b = take_all c.loop-k.k c.args.row.now (omega arith) in
-    cc
