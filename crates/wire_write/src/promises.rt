@@ -4,5 +4,4 @@ ghost use Rattle.wire_write.specs.Answers.{WrittenMeans};
 // An answer that was written means itself.
 pub fn written_answers_stand()
     ensures { WrittenMeans }
-{
-}
+{}
