@@ -1,5 +1,5 @@
 use Rattle.std.proofs.Common.{ℕ, Result, sym, ap, ◌∙◌, subst}
-use Rattle.servers.specs.declared.limits.Unfit.{Unfit}
+use Rattle.servers.specs.declared.limits.Limit.{Limit}
 use Rattle.servers.proofs.Opening.{opened_is_good}
 use Rattle.memory.specs.Program.{serves}
 use Rattle.group.specs.Opening.{FitsGroup, group_sized}
@@ -27,6 +27,6 @@ returns-in-Ok c =
     record {
       value = made ∙ sym (ap group_sized from);
       sized =
-          subst (λ (r : Result Group Unfit). FitsGroup r) (sym made)
+          subst (λ (r : Result Group Limit). FitsGroup r) (sym made)
           (sized_fits c.args.servers c.args.clients c.args.room c.in-Ok.l from);
     }
