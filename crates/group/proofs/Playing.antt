@@ -1,21 +1,20 @@
 -- One happening after the other: a group goes on playing.
-use Rattle.std.proofs.Common.{◌≡◌, ℕ, suc, ◌+◌, ◌-◌, ◌*◌, ◌<◌, ◌≤◌, true, ltb, List, [], ◌∷◌, ◌++◌, length, get_or, take, drop, sym, refl, ap, ◌∙◌, subst, mul-le-mul_right, suc-mul, arith}
+use Rattle.std.proofs.Common.{◌≡◌, ℕ, suc, ◌+◌, ◌-◌, ◌*◌, ◌<◌, ◌≤◌, true, List, [], ◌∷◌, ◌++◌, length, take, drop, Ok, Err, Result, sym, refl, ap, ◌∙◌, subst, mul-le-mul_right, suc-mul, arith}
 use Rattle.std.proofs.lemmas.List.{append_assoc, drop_at, length-append, length-take, length-take-le, take_at}
 use Rattle.std.proofs.lemmas.Bool.{and_from, lt-ltb}
-use Rattle.servers.specs.Server.{Limits, Event, Answer, refused, not_leader, does, state}
+use Rattle.std.specs.Result.{IsErrAnd}
+use Rattle.servers.specs.Server.{Limits, Event, Answer, state}
 use Rattle.servers.specs.World.{Group, World, limits, seen, memory, happens}
-use Rattle.servers.specs.Promise.{all_below, bytes, eight, readable, all_readable, readable_world, GoodLimits, GoodGroup, Right}
+use Rattle.servers.specs.Promise.{bytes, eight, readable, all_readable, readable_world, GoodLimits, GoodGroup, Right}
 use Rattle.wire.specs.Write.{write_number, write_answer}
 use Rattle.wire.specs.Read.{read_event}
-use Rattle.wire.specs.Codec.{Slice}
 use Rattle.wire.specs.Answers.{fine_answer}
 use Rattle.wire.proofs.Numbers.{length_bytes_of}
 use Rattle.wire.specs.Sizes.{answer_size}
 use Rattle.wire.proofs.Places.{read_is_readable}
 use Rattle.wire.proofs.Sizes.{answer_is_fine}
 use Rattle.wire_write.specs.Put.{Writes}
-use Rattle.wire_write.specs.Answers.{answer_length, answer_of}
-use Rattle.wire_write.specs.declared.answer.Answer as code
+use Rattle.wire_write.specs.Answers.{answer_length}
 use Rattle.wire_write.proofs.Answering.{length_answer}
 use Rattle.wire_write.proofs.Putting.{take_put_all}
 use Rattle.memory.specs.Program.{serves, server, says}
@@ -24,10 +23,11 @@ use Rattle.state.specs.Held.{limits_of, Holding}
 use Rattle.state.proofs.Holding.{always_held}
 use Rattle.group.specs.Journals.{Kept, Journals, Grows, write_came, world_in, events_of}
 use Rattle.group.specs.Parts.{part, Parts, Steps, CanHappen, Alive}
-use Rattle.group.specs.Playing.{group_of, Playing, Turned, TurnedOn, Played}
+use Rattle.group.specs.Playing.{group_of, Playing, TurnedOn, Played, Why, Outcome}
 use Rattle.server.specs.Reached.{Reached}
 use Rattle.group.specs.declared.happen.Group as groups
 use Rattle.group.specs.declared.happen.Kept as kepts
+use Rattle.group.specs.declared.happen.Denied.{Denied}
 use Rattle.group.proofs.Journals.{journals_grow, grown_happens}
 use Rattle.group.proofs.Parts.{parts_step, alive_on}
 use Rattle.group.proofs.Explained.{alive_is_explained}
@@ -121,6 +121,14 @@ ready p k m xs ys i low room pl =
     let longest = pl.longest in
     let w = part_within i p.servers p.words low in
     record { within = omega arith; reached = subst (λ (z : Limits). Reached z q) (sym l) x; room = omega arith }
+
+-- what is denied changes nothing
+pub denied :
+    (p : groups.Group) (k : kepts.Kept) (i : ℕ) (bs m xs ys : List ℕ) (why : Denied) (r : Result kepts.Kept Denied)
+    → IsErrAnd r (λ e. e ≡ why) → Why p k i bs xs ys why → Outcome p k i bs m xs ys m xs ys r
+denied p k i bs m xs ys why (Ok x) e h = absurd e
+denied p k i bs m xs ys why (Err x) e h =
+    (subst (λ (z : Denied). Why p k i bs xs ys z) (sym e) h, refl, refl, refl)
 
 -- ONE HAPPENING: the event was written, the server stepped, and the counts are the new ones
 pub played :

@@ -3,7 +3,7 @@ ghost use Rattle.std.specs.Prelude.{◌≡◌, ◌+◌, ◌≤◌, ◌∷◌, le
 ghost use Rattle.wire_write.specs.Put.{Writes};
 ghost use Rattle.group.specs.Journals.{write_came};
 
-use wire_write::answer::{write_comes};
+use wire_write::answer::write_comes;
 use wire_write::put::{write_byte, write_number, write_text};
 
 // What a happening has in the journal of events besides the event: the server, and how many bytes.

@@ -8,7 +8,7 @@ ghost use Rattle.group.specs.Playing.{group_of};
 
 use crate::happen::{Group, Kept};
 use server::open::{answer_bytes, memory_words, open};
-use servers::limits::{Limits, Limit};
+use servers::limits::{Limit, Limits};
 
 // A group of so many servers and clients, with room for so many entries, or the limit that is out of its range.
 pub fn sized(servers: u64, clients: u64, room: u64) -> Result<Group, Limit>

@@ -10,28 +10,24 @@ pub fn journals_stand()
     ensures tell { JournalsTell }
     ensures grow { JournalsGrow }
     ensures happens { GrownHappens }
-{
-}
+{}
 
 // Each server's part is its memory after what it saw, and a step at one server leaves the others'.
 pub fn parts_stand()
     ensures new { PartsOpen }
     ensures step { PartsStep }
-{
-}
+{}
 
 // A letter of the index can come, and the index goes on with what is sent.
 pub fn letters_stand()
     ensures stays { IndexStays }
     ensures grows { IndexGrows }
     ensures comes { LetterComes }
-{
-}
+{}
 
 // What a group does is lived, and every lived world is as if there were one server.
 pub fn group_is_explained()
     ensures new { AliveNew }
     ensures on { AliveOn }
     ensures explained { AliveIsExplained }
-{
-}
+{}

@@ -1,6 +1,6 @@
 use Rattle.std.proofs.Common.{refl, arith}
 use Rattle.group.specs.Journals.{events_of, answers_of}
-use Rattle.group.proofs.Playing.{ends, played}
+use Rattle.group.proofs.Playing.{denied, ends, played}
 use Rattle.group.proofs.happen.happen.Goals as goal
 
 pub room_for-requires : goal.room_for-requires
@@ -12,5 +12,13 @@ room_for-requires c =
       size = omega arith;
     }
 
+pub returns-in_err-room_for : goal.returns-in_err-room_for
+returns-in_err-room_for c =
+    denied c.args.g c.args.kept c.args.server c.args.event.now c.args.mems.now c.args.events.now c.args.answers.now _
+    c.from_residual.result c.from_residual.ensures.1 (c.in_err-room_for.ensures c.args.server c.args.event.now refl)
+
 pub returns : goal.returns
-returns c = ?
+returns c =
+    played c.args.g c.args.kept c.turn.result c.args.server c.put_came-end.result c.args.event.now c.args.mems.now
+    c.args.events.now c.args.answers.now c.turn.new.mems c.put_came-end.new.events c.turn.new.answers c.requires.playing
+    c.requires.there c.requires.can c.put_came-end.ensures.bytes c.turn.ensures
