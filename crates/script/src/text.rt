@@ -1,9 +1,15 @@
 // Names and texts as words of a line: a byte from 33 to 126 other than `\` stands for itself, any other is `\` and two small
 // hex digits; `\.` is the empty text.
-use std::alloc::AllocError;
+ghost use Rattle.std.specs.Prelude.{◌≡◌, ℕ, ◌/◌, ◌%◌, ◌<◌, ◌≢◌, [], ◌∷◌, ◌++◌, length, MatchOption, IfSome, List, OnOk};
+ghost use Rattle.std.specs.Char.{digit_char};
+ghost use Rattle.script.specs.Text.{hex_of, InHex, InText, Pushed, PushedText};
 
-// What a hex digit counts.
-pub fn hex(d: u8) -> Option<u8> {
+use crate::fault::Fault;
+
+// What a hex digit counts. The library's `to_digit` would take capitals too.
+pub fn hex(d: u8) -> Option<u8>
+    ensures { MatchOption result ((v : ℕ) → v < 16 → digit_char v ≢ d) (λ v. (v < 16) × (digit_char v ≡ d)) }
+{
     match d {
         b'0'..=b'9' => Some(d - b'0'),
         b'a'..=b'f' => Some(d - b'a' + 10),
@@ -11,56 +17,63 @@ pub fn hex(d: u8) -> Option<u8> {
     }
 }
 
-fn byte(high: u8, low: u8) -> Option<u8> {
-    let h = hex(high)?;
-    let l = hex(low)?;
-    if h < 16 && l < 16 {
-        Some(h * 16 + l)
+fn byte(high: u8, low: u8) -> Option<u8>
+    ensures { IfSome result (λ b. high ∷ (low ∷ []) ≡ hex_of b) }
+{
+    Some(hex(high)? * 16 + hex(low)?)
+}
+
+// Bytes as pairs of hex digits, put at the end of `out`.
+pub fn push_hex(out: &mut Vec<u8>, digits: &[u8]) -> Result<(), Fault>
+    ensures { OnOk result (Pushed InHex digits.now [] out.old.items out.new.items) }
+{
+    let expected = Fault::Expected("bytes as pairs of small hex digits");
+    if digits.len() % 2 != 0 {
+        return Err(expected);
+    }
+    let mut rest = digits;
+    while let [high, low, after @ ..] = rest {
+        let Some(b) = byte(*high, *low) else {
+            return Err(expected);
+        };
+        out.push(b)?;
+        rest = after;
+    }
+    Ok(())
+}
+
+// The byte that the front of a word stands for, and what stands after it.
+fn first(word: &[u8]) -> Option<(u8, &[u8])>
+    ensures { IfSome result (λ p. (length p.1.now < length word.now) × ((x : List ℕ) × InText p.0 x × (word.now ≡ x ++ p.1.now))) }
+{
+    let (b, rest) = word.split_first()?;
+    if *b == b'\\' {
+        let [high, low, rest @ ..] = rest else {
+            return None;
+        };
+        return Some((byte(*high, *low)?, rest));
+    }
+    if b.is_ascii_graphic() {
+        Some((*b, rest))
     } else {
         None
     }
 }
 
-// Bytes as pairs of hex digits, put at the end of `out`; false where they are none.
-pub fn push_hex(out: &mut Vec<u8>, digits: &[u8]) -> Result<bool, AllocError> {
-    if digits.len() % 2 != 0 {
-        return Ok(false);
+// The bytes that a word stands for, put at the end of `out`; `what` is expected where it stands for none.
+pub fn push_text(out: &mut Vec<u8>, word: &[u8], what: &'static str) -> Result<(), Fault>
+    ensures { OnOk result (PushedText word.now out.old.items out.new.items) }
+{
+    if word == b"\\.".as_slice() {
+        return Ok(());
     }
-    let mut i = 0;
-    while i + 1 < digits.len() {
-        let Some(b) = byte(digits[i], digits[i + 1]) else {
-            return Ok(false);
+    let mut rest = word;
+    while !rest.is_empty() {
+        let Some((b, after)) = first(rest) else {
+            return Err(Fault::Expected(what));
         };
         out.push(b)?;
-        i += 2;
+        rest = after;
     }
-    Ok(true)
-}
-
-// The bytes that a word stands for, put at the end of `out`; false where it stands for none.
-pub fn push_text(out: &mut Vec<u8>, word: &[u8]) -> Result<bool, AllocError> {
-    if word == b"\\.".as_slice() {
-        return Ok(true);
-    }
-    let mut i = 0;
-    while i < word.len() {
-        let b = word[i];
-        if b < 33 || b > 126 {
-            return Ok(false);
-        }
-        if b != b'\\' {
-            out.push(b)?;
-            i += 1;
-        } else {
-            if word.len() - i < 3 {
-                return Ok(false);
-            }
-            let Some(escaped) = byte(word[i + 1], word[i + 2]) else {
-                return Ok(false);
-            };
-            out.push(escaped)?;
-            i += 3;
-        }
-    }
-    Ok(true)
+    Ok(())
 }
