@@ -3,6 +3,7 @@
 
 pub mod command;
 pub mod event;
+pub mod forward;
 pub mod message;
 pub mod parts;
 pub mod read;

@@ -1,0 +1,4 @@
+mod Reading
+pub mod Passing
+mod Heads
+mod Ends

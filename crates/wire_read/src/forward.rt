@@ -1,0 +1,44 @@
+// Entries read forward one at a time in the order of their bytes: the last first.
+ghost use Rattle.std.specs.Prelude.{◌≡◌, ◌+◌, ◌-◌, ◌<◌, ◌≤◌, ◌∷◌, length, take, drop};
+ghost use Rattle.servers.specs.Server.{last_index, last_term};
+ghost use Rattle.wire.specs.Read.{number_of};
+ghost use Rattle.wire_read.specs.Means.{entries_of, entry_of};
+
+use crate::command::read_entry;
+use crate::parts::{Entries, Entry};
+use crate::read::read_number;
+
+// Eight bytes at a place that has them.
+#[tactic(auto, unfolding(wire::specs::Read::read_number))]
+fn number_at(b: &[u8], at: usize) -> u64
+    requires { at + 8 ≤ length b.now }
+    ensures { result ≡ number_of (take 8 (drop at b.now)) }
+{
+    let (number, _) = read_number(&b[at..]).unwrap();
+    number
+}
+
+// Index and term of the first of the entries, which stand at known places in it: its command is not looked at.
+pub fn first_place(es: Entries<'_>) -> (u64, u64)
+    requires { 0 < es.count }
+    ensures index { result.0 ≡ last_index (entries_of es.entry) }
+    ensures term { result.1 ≡ last_term (entries_of es.entry) }
+{
+    let index = number_at(es.bytes, 17);
+    let term = number_at(es.bytes, 25);
+    (index, term)
+}
+
+// The first of the entries, and the rest.
+pub fn next_entry(es: Entries<'_>) -> (Entry<'_>, Entries<'_>)
+    requires { 0 < es.count }
+    ensures value { entries_of es.entry ≡ entry_of result.0 ∷ entries_of result.1 }
+    ensures count { result.1.count ≡ es.entry.count - 1 }
+{
+    let (entry, bytes) = read_entry(es.bytes).unwrap();
+    let rest = Entries {
+        count: es.count - 1,
+        bytes,
+    };
+    (entry, rest)
+}
