@@ -1,9 +1,9 @@
 -- How far the reader of events comes: not past the end of the bytes.
-use Rattle.std.proofs.Common.{◌≡◌, ℕ, suc, ◌+◌, ◌<◌, ◌≤◌, ltb, true, List, [], ◌∷◌, ◌++◌, length, get_or, refl, ap, ◌∙◌, arith}
+use Rattle.std.proofs.Common.{◌≡◌, ℕ, suc, ◌<◌, ◌≤◌, ltb, true, List, [], ◌∷◌, length, get_or, refl, arith}
 use Rattle.std.proofs.lemmas.Bool.{and_from, lt-ltb}
 use Rattle.std.proofs.lemmas.List.{length-append}
 use Rattle.servers.specs.Promise.{all_below, bytes}
-use Rattle.servers.specs.Server.{Event, timeout, request, comes, restart, garbled}
+use Rattle.servers.specs.Server.{Event}
 use Rattle.wire.specs.Read.{Read, got, stuck, read_front}
 use Rattle.wire.specs.Write.{write_event}
 use Rattle.wire.proofs.Codecs.{Seen, whole, short, wrong}

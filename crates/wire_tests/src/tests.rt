@@ -128,8 +128,8 @@ fn entries_in_order(rt: HostRuntime) -> Result<(), Fail> {
     };
     assert_eq!(rt; commit, 3);
     assert!(rt; es.count == 2);
-    let (last, rest) = next_entry(b, es);
-    let (first, none) = next_entry(b, rest);
+    let (last, rest) = next_entry(es);
+    let (first, none) = next_entry(rest);
     assert_eq!(rt; last.index, 3);
     assert_eq!(rt; first.index, 2);
     assert_eq!(rt; none.count, 0);
