@@ -1,5 +1,5 @@
 -- Entries one after the other: where the pass over them stands, and the first of them and the rest.
-use Rattle.std.proofs.Common.{◌≡◌, ℕ, zero, suc, ◌-◌, ◌<◌, true, false, List, ◌∷◌, length, refl, sym, ap, arith}
+use Rattle.std.proofs.Common.{◌≡◌, ℕ, zero, suc, ◌-◌, ◌<◌, true, false, List, [], ◌∷◌, length, refl, sym, ap, arith}
 use Rattle.std.proofs.lemmas.Bool.{both_ways}
 use Rattle.servers.specs.Server.{Entry}
 use Rattle.wire.specs.Read.{Read, got, stuck, and_then, read_entry, read_entries}
@@ -100,3 +100,7 @@ pub entries_length : (n : ℕ) (d : List ℕ) → is_got (read_entries n d) ≡ 
 unfolding read_entries
 entries_length zero d p = refl
 entries_length (suc n) d p = counted n (read_entry d) p (λ r q. entries_length n r q)
+
+pub no_entries : (n : ℕ) (d : List ℕ) → n ≡ 0 → list_read (read_entries n d) ≡ []
+unfolding read_entries
+no_entries n d e = rw e refl

@@ -1,5 +1,6 @@
-// Entries read forward one at a time in the order of their bytes: the last first.
-ghost use Rattle.std.specs.Prelude.{◌≡◌, ◌+◌, ◌-◌, ◌<◌, ◌≤◌, ◌∷◌, length, take, drop};
+// Entries read forward one at a time in the order of their bytes, which is the last first.
+ghost use Rattle.std.specs.Prelude.{◌≡◌, ◌+◌, ◌<◌, ◌≤◌, length, take, drop};
+ghost use Rattle.std.specs.Iterator.{YieldsFirstBy, item_count};
 ghost use Rattle.servers.specs.Server.{last_index, last_term};
 ghost use Rattle.wire.specs.Read.{number_of};
 ghost use Rattle.wire_read.specs.Means.{entries_of, entry_of};
@@ -29,16 +30,23 @@ pub fn first_place(es: Entries<'_>) -> (u64, u64)
     (index, term)
 }
 
-// The first of the entries, and the rest.
-pub fn next_entry(es: Entries<'_>) -> (Entry<'_>, Entries<'_>)
-    requires { 0 < es.count }
-    ensures value { entries_of es.entry ≡ entry_of result.0 ∷ entries_of result.1 }
-    ensures count { result.1.count ≡ es.entry.count - 1 }
-{
-    let (entry, bytes) = read_entry(es.bytes).unwrap();
-    let rest = Entries {
-        count: es.count - 1,
-        bytes,
-    };
-    (entry, rest)
+// Forward over entries in the order of their bytes.
+impl<'a> Iterator for Entries<'a> {
+    type Item = Entry<'a>;
+
+    ghost next_gives = { YieldsFirstBy entry_of entries_of };
+
+    ghost remaining = { item_count entries_of };
+
+    fn next(&mut self) -> Option<Entry<'a>> {
+        if self.count == 0 {
+            return None;
+        }
+        let (entry, bytes) = read_entry(self.bytes).unwrap();
+        *self = Entries {
+            count: self.count - 1,
+            bytes,
+        };
+        Some(entry)
+    }
 }
