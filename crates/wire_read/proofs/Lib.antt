@@ -1,4 +1,4 @@
-pub mod Laws
-pub mod Reading
+mod Reading
 pub mod Passing
-pub mod Heads
+mod Heads
+mod Ends

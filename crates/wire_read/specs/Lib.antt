@@ -1,2 +1,2 @@
+pub mod Got
 pub mod Means
-pub mod Arms

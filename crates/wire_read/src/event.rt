@@ -1,59 +1,44 @@
 // THE READER of events: every slice of bytes is an event, or is garbled at a place.
-ghost use Rattle.std.specs.Prelude.{◌≡◌, ◌≤◌, length};
-ghost use Rattle.wire_read.specs.Arms.{read_comes, read_request};
-ghost use Rattle.wire_read.specs.Means.{EventIn, ReadsEvent, means};
+ghost use Rattle.std.specs.Prelude.{◌≡◌};
 ghost use Rattle.wire.specs.Read.{read_event, read_front};
+ghost use Rattle.wire_read.specs.Means.{Reads, Within, means};
 
 use crate::command::read_command;
 use crate::message::read_message;
 use crate::parts::Event;
-use crate::read::{read_byte, read_number};
+use crate::read::{Stuck, read_byte, read_number};
 
-fn read_request(b: &[u8], at: usize) -> Result<(Event, usize), usize>
-    requires { at ≤ length b.now }
-    ensures { ReadsEvent b.now at read_request result }
+#[tactic(auto, unfolding(wire::specs::Read::read_front))]
+fn read_front(b: &[u8]) -> Result<(Event<'_>, &[u8]), Stuck>
+    ensures { Reads means (read_front b.now) result }
 {
-    let (client, next) = read_number(b, at)?;
-    let (id, next) = read_number(b, next)?;
-    let (command, next) = read_command(b, next)?;
-    Ok((Event::Request(client, id, command), next))
-}
-
-fn read_comes(b: &[u8], at: usize) -> Result<(Event, usize), usize>
-    requires { at ≤ length b.now }
-    ensures { ReadsEvent b.now at read_comes result }
-{
-    let (from, next) = read_byte(b, at)?;
-    let (message, next) = read_message(b, next)?;
-    Ok((Event::Comes(from, message), next))
-}
-
-fn read_front(b: &[u8], at: usize) -> Result<(Event, usize), usize>
-    requires { at ≤ length b.now }
-    ensures { ReadsEvent b.now at read_front result }
-{
-    let (tag, next) = read_byte(b, at)?;
-    match tag {
-        0 => Ok((Event::Timeout, next)),
-        1 => read_request(b, next),
-        2 => read_comes(b, next),
-        3 => Ok((Event::Restart, next)),
-        _ => Err(at),
+    match b {
+        [] => Err(Stuck { left: 0 }),
+        [0, rest @ ..] => Ok((Event::Timeout, rest)),
+        [1, rest @ ..] => {
+            let (client, rest) = read_number(rest)?;
+            let (id, rest) = read_number(rest)?;
+            let (command, rest) = read_command(rest)?;
+            Ok((Event::Request(client, id, command), rest))
+        }
+        [2, rest @ ..] => {
+            let (from, rest) = read_byte(rest)?;
+            let (message, rest) = read_message(rest)?;
+            Ok((Event::Comes(from, message), rest))
+        }
+        [3, rest @ ..] => Ok((Event::Restart, rest)),
+        _ => Err(Stuck { left: b.len() }),
     }
 }
 
 // Bytes after the end of an event are refused at the first of them.
-pub fn read_event(b: &[u8]) -> Event
-    ensures value { means b.now result ≡ read_event b.now }
-    ensures within { EventIn b.now result }
+pub fn read_event(b: &[u8]) -> Event<'_>
+    ensures value { means result ≡ read_event b.now }
+    ensures within { Within b.now result }
 {
-    match read_front(b, 0) {
-        Ok((event, next)) => {
-            if next < b.len() {
-                return Event::Garbled(next);
-            }
-            event
-        }
-        Err(place) => Event::Garbled(place),
+    match read_front(b) {
+        Ok((event, [])) => event,
+        Ok((_, after)) => Event::Garbled(b.len() - after.len()),
+        Err(stuck) => Event::Garbled(b.len() - stuck.left),
     }
 }

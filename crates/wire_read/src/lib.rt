@@ -1,4 +1,4 @@
-// Events, commands, messages and entries read from their bytes, with no copy: numbers by value, texts and entries by places.
+// Events, commands, messages and entries read from their bytes, with no copy: numbers by value, texts and entries as slices.
 #![tactic(auto)]
 
 pub mod command;

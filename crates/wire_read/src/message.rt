@@ -1,81 +1,63 @@
 // Readers of messages. The entries of an append are passed over once, and stay where they are.
-ghost use Rattle.std.specs.Prelude.{◌≤◌, length};
-ghost use Rattle.wire_read.specs.Arms.{read_appended, read_ask_vote, read_vote};
-ghost use Rattle.wire_read.specs.Means.{ReadsEntries, ReadsMessage};
 ghost use Rattle.wire.specs.Read.{read_append, read_entries, read_message};
+ghost use Rattle.wire_read.specs.Means.{Reads, entries_of, message_of};
 
-use crate::command::checked_entry;
+use crate::command::read_entry;
 use crate::parts::{Entries, Message};
-use crate::read::{read_bool, read_byte, read_number};
+use crate::read::{Stuck, read_bool, read_number};
 
 // So many entries, up to the first that is refused: a count that is too large costs only the bytes that are there.
-pub fn read_entries(b: &[u8], at: usize, count: u64) -> Result<(Entries, usize), usize>
-    requires { at ≤ length b.now }
-    ensures { ReadsEntries b.now at (read_entries count) result }
+pub fn read_entries(b: &[u8], count: u64) -> Result<(Entries<'_>, &[u8]), Stuck>
+    ensures { Reads entries_of (read_entries count b.now) result }
 {
-    let mut next = at;
-    for _k in 0..count {
-        let (_, after) = checked_entry(b, next)?;
-        next = after;
+    let mut rest = b;
+    for _ in 0..count {
+        let (_, after) = read_entry(rest)?;
+        rest = after;
     }
-    Ok((Entries { count, at }, next))
+    Ok((Entries { count, bytes: b }, rest))
 }
 
-fn read_ask_vote(b: &[u8], at: usize) -> Result<(Message, usize), usize>
-    requires { at ≤ length b.now }
-    ensures { ReadsMessage b.now at read_ask_vote result }
+#[tactic(auto, unfolding(wire::specs::Read::read_append))]
+fn read_append(b: &[u8]) -> Result<(Message<'_>, &[u8]), Stuck>
+    ensures { Reads message_of (read_append b.now) result }
 {
-    let (term, next) = read_number(b, at)?;
-    let (index, next) = read_number(b, next)?;
-    let (last_term, next) = read_number(b, next)?;
-    Ok((Message::AskVote(term, index, last_term), next))
-}
-
-fn read_vote(b: &[u8], at: usize) -> Result<(Message, usize), usize>
-    requires { at ≤ length b.now }
-    ensures { ReadsMessage b.now at read_vote result }
-{
-    let (term, next) = read_number(b, at)?;
-    let (granted, next) = read_bool(b, next)?;
-    Ok((Message::Vote(term, granted), next))
-}
-
-fn read_append(b: &[u8], at: usize) -> Result<(Message, usize), usize>
-    requires { at ≤ length b.now }
-    ensures { ReadsMessage b.now at read_append result }
-{
-    let (term, next) = read_number(b, at)?;
-    let (before, next) = read_number(b, next)?;
-    let (before_term, next) = read_number(b, next)?;
-    let (commit, next) = read_number(b, next)?;
-    let (count, next) = read_number(b, next)?;
-    let (entries, next) = read_entries(b, next, count)?;
+    let (term, rest) = read_number(b)?;
+    let (before, rest) = read_number(rest)?;
+    let (before_term, rest) = read_number(rest)?;
+    let (commit, rest) = read_number(rest)?;
+    let (count, rest) = read_number(rest)?;
+    let (entries, rest) = read_entries(rest, count)?;
     Ok((
         Message::Append(term, before, before_term, commit, entries),
-        next,
+        rest,
     ))
 }
 
-fn read_appended(b: &[u8], at: usize) -> Result<(Message, usize), usize>
-    requires { at ≤ length b.now }
-    ensures { ReadsMessage b.now at read_appended result }
+#[tactic(auto, unfolding(wire::specs::Read::read_message))]
+pub fn read_message(b: &[u8]) -> Result<(Message<'_>, &[u8]), Stuck>
+    ensures { Reads message_of (read_message b.now) result }
 {
-    let (term, next) = read_number(b, at)?;
-    let (index, next) = read_number(b, next)?;
-    let (ok, next) = read_bool(b, next)?;
-    Ok((Message::Appended(term, index, ok), next))
-}
-
-pub fn read_message(b: &[u8], at: usize) -> Result<(Message, usize), usize>
-    requires { at ≤ length b.now }
-    ensures { ReadsMessage b.now at read_message result }
-{
-    let (tag, next) = read_byte(b, at)?;
-    match tag {
-        0 => read_ask_vote(b, next),
-        1 => read_vote(b, next),
-        2 => read_append(b, next),
-        3 => read_appended(b, next),
-        _ => Err(at),
+    match b {
+        [] => Err(Stuck { left: 0 }),
+        [0, rest @ ..] => {
+            let (term, rest) = read_number(rest)?;
+            let (index, rest) = read_number(rest)?;
+            let (last_term, rest) = read_number(rest)?;
+            Ok((Message::AskVote(term, index, last_term), rest))
+        }
+        [1, rest @ ..] => {
+            let (term, rest) = read_number(rest)?;
+            let (granted, rest) = read_bool(rest)?;
+            Ok((Message::Vote(term, granted), rest))
+        }
+        [2, rest @ ..] => read_append(rest),
+        [3, rest @ ..] => {
+            let (term, rest) = read_number(rest)?;
+            let (index, rest) = read_number(rest)?;
+            let (ok, rest) = read_bool(rest)?;
+            Ok((Message::Appended(term, index, ok), rest))
+        }
+        _ => Err(Stuck { left: b.len() }),
     }
 }

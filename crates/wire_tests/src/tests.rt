@@ -2,7 +2,6 @@
 use crate::{begins, place};
 use std::test::Fail;
 use wire_read::event::read_event;
-use wire_read::forward::next_entry;
 use wire_read::parts::{Event, Message};
 use wire_write::{answer, message, put};
 
@@ -122,17 +121,16 @@ fn hostile_counts(rt: HostRuntime) {
 // Entries come in the order of the bytes, the last first.
 #[test]
 fn entries_in_order(rt: HostRuntime) -> Result<(), Fail> {
-    let b = APPEND_TWO;
-    let Event::Comes(_, Message::Append(_, _, _, commit, es)) = read_event(b) else {
+    let Event::Comes(_, Message::Append(_, _, _, commit, mut es)) = read_event(APPEND_TWO) else {
         return Err(Fail::new("no append"));
     };
     assert_eq!(rt; commit, 3);
     assert!(rt; es.count == 2);
-    let (last, rest) = next_entry(b, es);
-    let (first, none) = next_entry(b, rest);
+    let last = es.next().ok_or("no last entry")?;
+    let first = es.next().ok_or("no first entry")?;
     assert_eq!(rt; last.index, 3);
     assert_eq!(rt; first.index, 2);
-    assert_eq!(rt; none.count, 0);
+    assert_eq!(rt; es.count, 0);
     Ok(())
 }
 

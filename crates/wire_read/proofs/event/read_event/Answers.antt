@@ -1,23 +1,20 @@
-use Rattle.std.proofs.Common.{length, sym, ap, ◌∙◌}
-use Rattle.wire.specs.Read.{whole}
-use Rattle.wire_read.specs.Means.{means}
-use Rattle.wire_read.proofs.Laws.{whole_end, whole_more}
+use Rattle.std.proofs.Common.{arith}
+use Rattle.wire_read.proofs.Ends.{front_ends, good_within}
 use Rattle.wire_read.proofs.event.read_event.Goals as goal
 
-pub returns-then-next-b : goal.returns-then-next-b
-returns-then-next-b c =
-    let p = c.in-Ok.ensures in
-    let bs = c.args.b.now in
-    record {
-      value = sym (whole_more bs c.in-Ok.next (means bs c.in-Ok.event) c.if-next-b.true) ∙ ap (whole (length bs)) p.value;
-      within = p.within.1;
-    }
+pub overflow_sub-result : goal.overflow_sub-result
+overflow_sub-result c =
+    let h = front_ends c.args.b.now (λ i. let f = c.type_inv.b i in omega arith) in
+    let z = rw c.in-Ok.ensures at h in
+    z.1
 
-pub returns-else-next-b : goal.returns-else-next-b
-returns-else-next-b c =
-    let p = c.in-Ok.ensures in
-    let bs = c.args.b.now in
-    record {
-      value = sym (whole_end bs c.in-Ok.next (means bs c.in-Ok.event) c.if-next-b.false) ∙ ap (whole (length bs)) p.value;
-      within = p.within.0;
-    }
+pub overflow_sub-result-in-Err : goal.overflow_sub-result-in-Err
+overflow_sub-result-in-Err c =
+    let h = front_ends c.args.b.now (λ i. let f = c.type_inv.b i in omega arith) in
+    rw c.in-Err.ensures at h
+
+pub returns-in-Ok-default-empty-clause-within : goal.returns-in-Ok-default-empty-clause-within
+returns-in-Ok-default-empty-clause-within c =
+    let h = front_ends c.args.b.now (λ i. let f = c.type_inv.b i in omega arith) in
+    let z = rw c.in-Ok-default-empty.ensures at h in
+    good_within c.args.b.now c.in-Ok-default-empty.event z.0
