@@ -29,7 +29,7 @@ fn pack_rows(rows: &mut [u64], entries: Entries<'_>)
     requires size { length rows.old ≡ 80 * entries.count }
     requires low { entries.count ≤ 2 ^ 32 }
     ensures rows { rows.new ≡ log_words (entries_of entries.entry) }
-    ensures count { length (entries_of entries.entry) ≡ entries.count }
+    ensures count { length (entries_of entries.entry) ≡ entries.entry.count }
 {
     for (i, entry) in (0..entries.count as usize).rev().zip(entries) {
         pack_entry(&mut rows[ROW * i..ROW * (i + 1)], entry);
