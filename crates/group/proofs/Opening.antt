@@ -3,7 +3,7 @@ use Rattle.std.proofs.Common.{◌≡◌, ℕ, ◌+◌, ◌*◌, ◌<◌, ◌≤�
 use borrow.Rule.Slice.PartMut.{put_mid}
 use Rattle.std.proofs.lemmas.Bool.{cases_eq}
 use Rattle.servers.specs.declared.limits.Limits as limit
-use Rattle.servers.specs.declared.limits.Unfit.{Unfit}
+use Rattle.servers.specs.declared.limits.Limit.{Limit}
 use Rattle.servers.specs.World.{Group, limits}
 use Rattle.servers.specs.Opened as servers
 use Rattle.servers.proofs.Opening.{opened_is_good}
@@ -40,7 +40,7 @@ sized_fits s c r l h =
     record { good = (q.0, q.1, q.3, q.4, q.5, q.6, q.7); each = refl; answer = refl }
 
 -- the group that the code makes of limits
-abbrev pub made : limit.Limits → ℕ → ℕ → Result code.Group Unfit
+abbrev pub made : limit.Limits → ℕ → ℕ → Result code.Group Limit
 made l w a = Ok (record { servers = l.servers; clients = l.clients; room = l.room; words = w; longest = a })
 
 pub sized_is : (l : limit.Limits) (w a : ℕ) → w ≡ memory_size (servers.limits_of serves l) → a ≡ answer_size (servers.limits_of serves l)

@@ -1,40 +1,36 @@
 -- One happening after the other: a group goes on playing.
-use Rattle.std.proofs.Common.{◌≡◌, ℕ, suc, ◌+◌, ◌-◌, ◌*◌, ◌<◌, ◌≤◌, true, ltb, List, [], ◌∷◌, ◌++◌, length, get_or, take, drop, sym, refl, ap, ◌∙◌, subst, mul-le-mul_right, suc-mul, arith}
+use Rattle.std.proofs.Common.{◌≡◌, ℕ, suc, ◌+◌, ◌-◌, ◌*◌, ◌<◌, ◌≤◌, true, List, [], ◌∷◌, ◌++◌, length, take, drop, Ok, Err, Result, sym, refl, ap, ◌∙◌, subst, mul-le-mul_right, suc-mul, arith}
 use Rattle.std.proofs.lemmas.List.{append_assoc, drop_at, length-append, length-take, length-take-le, take_at}
 use Rattle.std.proofs.lemmas.Bool.{and_from, lt-ltb}
-use Rattle.servers.specs.Server.{Limits, Event, Answer, refused, not_leader, does, state}
+use Rattle.std.specs.Result.{IsErrAnd}
+use Rattle.servers.specs.Server.{Limits, Event, Answer, state}
 use Rattle.servers.specs.World.{Group, World, limits, seen, memory, happens}
-use Rattle.servers.specs.Promise.{all_below, bytes, eight, readable, all_readable, readable_world, GoodLimits, GoodGroup, Right}
+use Rattle.servers.specs.Promise.{bytes, eight, readable, all_readable, readable_world, GoodLimits, GoodGroup, Right}
 use Rattle.wire.specs.Write.{write_number, write_answer}
 use Rattle.wire.specs.Read.{read_event}
-use Rattle.wire.specs.Codec.{Slice}
 use Rattle.wire.specs.Answers.{fine_answer}
 use Rattle.wire.proofs.Numbers.{length_bytes_of}
+use Rattle.wire.specs.Sizes.{answer_size}
 use Rattle.wire.proofs.Places.{read_is_readable}
 use Rattle.wire.proofs.Sizes.{answer_is_fine}
 use Rattle.wire_write.specs.Put.{Writes}
-use Rattle.wire_write.specs.Answers.{answer_of}
-use Rattle.wire_write.specs.declared.answer.Answer as code
+use Rattle.wire_write.specs.Answers.{answer_length}
+use Rattle.wire_write.proofs.Answering.{length_answer}
 use Rattle.wire_write.proofs.Putting.{take_put_all}
 use Rattle.memory.specs.Program.{serves, server, says}
 use Rattle.memory.proofs.Program.{right}
 use Rattle.state.specs.Held.{limits_of, Holding}
 use Rattle.state.proofs.Holding.{always_held}
-use Rattle.group.specs.Journals.{Kept, Journals, Grows, write_came, world_in, events_of, answer_length}
+use Rattle.group.specs.Journals.{Kept, Journals, Grows, write_came, world_in, events_of}
 use Rattle.group.specs.Parts.{part, Parts, Steps, CanHappen, Alive}
-use Rattle.group.specs.Playing.{group_of, Playing, Turned, Played}
+use Rattle.group.specs.Playing.{group_of, Playing, TurnedOn, Played, Why, Outcome}
 use Rattle.server.specs.Reached.{Reached}
 use Rattle.group.specs.declared.happen.Group as groups
 use Rattle.group.specs.declared.happen.Kept as kepts
+use Rattle.group.specs.declared.happen.Denied.{Denied}
 use Rattle.group.proofs.Journals.{journals_grow, grown_happens}
 use Rattle.group.proofs.Parts.{parts_step, alive_on}
 use Rattle.group.proofs.Explained.{alive_is_explained}
-
--- bytes as a slice has them
-pub are_bytes : (xs : List ℕ) → ((i : ℕ) → get_or xs i 0 < 256) → bytes xs ≡ true
-unfolding all_below
-are_bytes [] h = refl
-are_bytes (x ∷ xs) h = and_from (ltb x 256) (bytes xs) (lt-ltb x 256 (h 0)) (are_bytes xs (λ i. h (suc i)))
 
 pub good_limits : (g : Group) (i : ℕ) → i < g.servers → GoodGroup serves g → GoodLimits serves (limits g i)
 good_limits g i low q = (q.0, q.1, low, q.2, q.3, q.4, q.5, q.6)
@@ -91,11 +87,6 @@ number_long : (x : ℕ) → length (write_number x) ≡ 8
 unfolding write_number
 number_long x = length_bytes_of 8 x
 
-pub answer_long : (a : Answer) → answer_length (answer_of a) ≡ length (write_answer a)
-answer_long (refused j k) = let l = number_long k in omega arith
-answer_long not_leader = refl
-answer_long (does ss ls) = refl
-
 -- how many of the words are before a server's part and in it
 pub part_within : (i n words : ℕ) → i < n → i * words + words ≤ n * words
 part_within i n words h =
@@ -113,14 +104,43 @@ fine_says l m e x h =
     ap (λ (z : List ℕ). fine_answer (says serves z e)) x.is
     ∙ (ap fine_answer (right serves l x.events e x.good r) ∙ answer_is_fine serves l x.events e x.good r)
 
+-- a server is ready for a step, and there is room for its answer
+pub record Ready (p : groups.Group) (i at : ℕ) (m ys : List ℕ) : Type 0 where
+  pub within : i * p.words + p.words ≤ length m
+  pub reached : Reached (limits_of (part p.words i m)) (part p.words i m)
+  pub room : at + answer_size (limits_of (part p.words i m)) ≤ length ys
+
+pub ready : (p : groups.Group) (k : kepts.Kept) (m xs ys : List ℕ) (i : ℕ) → i < p.servers → k.answers + p.longest ≤ length ys
+    → Playing p k m xs ys → Ready p i k.answers m ys
+ready p k m xs ys i low room pl =
+    let q : List ℕ = part p.words i m in
+    let x = reached p k m xs ys i low pl in
+    let l : limits_of q ≡ limits (group_of p) i = its_limits (limits (group_of p) i) q x in
+    let s : answer_size (limits_of q) ≡ answer_size (limits (group_of p) 0) = ap (λ (z : Limits). answer_size z) l in
+    let long = pl.long in
+    let longest = pl.longest in
+    let w = part_within i p.servers p.words low in
+    record { within = omega arith; reached = subst (λ (z : Limits). Reached z q) (sym l) x; room = omega arith }
+
+-- what is denied changes nothing
+pub denied :
+    (p : groups.Group) (k : kepts.Kept) (i : ℕ) (bs m xs ys : List ℕ) (why : Denied) (r : Result kepts.Kept Denied)
+    → IsErrAnd r (λ e. e ≡ why) → Why p k i bs xs ys why → Outcome p k i bs m xs ys m xs ys r
+denied p k i bs m xs ys why (Ok x) e h = absurd e
+denied p k i bs m xs ys why (Err x) e h =
+    (subst (λ (z : Denied). Why p k i bs xs ys z) (sym e) h, refl, refl, refl)
+
 -- ONE HAPPENING: the event was written, the server stepped, and the counts are the new ones
 pub played :
-    (p : groups.Group) (k k' : kepts.Kept) (i to : ℕ) (bs m xs ys m' xs' ys' : List ℕ) (r : code.Answer) → Playing p k m xs ys
-    → i < p.servers → Slice bs → CanHappen (world_in k.happenings xs ys) i (read_event bs)
-    → Writes k.events (write_came i bs) xs xs' to → Turned p.words i k.answers bs m ys m' ys' r
-    → k'.happenings ≡ suc k.happenings → k'.events ≡ to → k'.answers ≡ k.answers + answer_length r
-    → Played p k i (read_event bs) xs ys k' m' xs' ys'
-played p k k' i to bs m xs ys m' xs' ys' r pl low fit can put t eh ee ea =
+    (p : groups.Group) (k k' : kepts.Kept) (i to : ℕ) (bs m xs ys m' xs' ys' : List ℕ) → Playing p k m xs ys → i < p.servers
+    → CanHappen (world_in k.happenings xs ys) i (read_event bs) → Writes k.events (write_came i bs) xs xs' to
+    → TurnedOn p k i to bs m ys m' ys' k' → Played p k i (read_event bs) xs ys k' m' xs' ys'
+played p k k' i to bs m xs ys m' xs' ys' pl low can put o =
+    let t = o.turned in
+    let eh = o.happenings in
+    let ee = o.events in
+    let ea = o.answers in
+    let fit = t.event in
     let g : Group = group_of p in
     let n : ℕ = k.happenings in
     let w : World = world_in n xs ys in
@@ -148,7 +168,7 @@ played p k k' i to bs m xs ys m' xs' ys' r pl low fit can put t eh ee ea =
     let alive : Alive g (world_in k'.happenings xs' ys') =
     subst (λ (z : World). Alive g z) (sym world) (alive_on g w i e low fine can pl.alive) in
     let ends_at : k.answers + length (write_answer a) ≡ k'.answers =
-    ap (λ (z : ℕ). k.answers + z) (sym (ap answer_length t.answer_is ∙ answer_long a)) ∙ sym ea in
+    ap (λ (z : ℕ). k.answers + z) (sym (ap answer_length t.answer_is ∙ length_answer a)) ∙ sym ea in
     let long = pl.long in
     let same = t.long in
     record {

@@ -7,8 +7,6 @@ use Rattle.servers.specs.Promise.{bytes, eight}
 use Rattle.wire.specs.Write.{write_text, write_answer}
 use Rattle.wire.specs.Read.{Read, got, stuck, and_then, read_byte, read_text, read_answer, read_event}
 use Rattle.wire.specs.Answers.{fine_answer}
-use Rattle.wire_write.specs.declared.answer.Answer as code
-use Rattle.wire_write.specs.declared.answer.Answer.TheVariants.{Refused, NotLeader, Does}
 use Rattle.memory.specs.Program.{server}
 
 -- an event as it came: to which server, and its bytes
@@ -108,9 +106,3 @@ GrownHappens =
     (g : Group) (n e a : ℕ) (xs ys : List ℕ) (i : ℕ) (bs : List ℕ) (r : Answer) (xs' ys' : List ℕ) → Journals n e a xs ys
     → Grows e a xs ys i bs r xs' ys' → r ≡ says_now server g (world_in n xs ys) i (read_event bs)
     → world_in (suc n) xs' ys' ≡ happens server g (world_in n xs ys) i (read_event bs)
-
--- how many bytes the code's answer says that it has
-abbrev pub answer_length : code.Answer → ℕ
-answer_length (Refused j k) = 10
-answer_length NotLeader = 1
-answer_length (Does n m len) = len

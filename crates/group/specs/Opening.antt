@@ -1,7 +1,7 @@
 -- How much a group needs. Assumes nothing: these are definitions.
 use Rattle.std.specs.Prelude.{◌≡◌, ℕ, List, Ok, Err, Result}
 use Rattle.servers.specs.declared.limits.Limits.{Limits}
-use Rattle.servers.specs.declared.limits.Unfit.{Unfit}
+use Rattle.servers.specs.declared.limits.Limit.{Limit}
 use Rattle.servers.specs.World.{limits}
 use Rattle.servers.specs.Opened.{limits_of}
 use Rattle.servers.specs.Promise.{GoodGroup}
@@ -19,7 +19,7 @@ pub record Sized (p : Group) : Type 0 where
   pub answer : p.longest ≡ answer_size (limits (group_of p) 0)
 
 -- the group of some limits
-abbrev pub group_sized : Result Limits Unfit → Result Group Unfit
+abbrev pub group_sized : Result Limits Limit → Result Group Limit
 group_sized (Ok l) =
     Ok (record {
       servers = l.servers;
@@ -34,7 +34,7 @@ abbrev pub none_kept : Kept
 none_kept = record { happenings = 0; events = 0; answers = 0 }
 
 -- what is sized fits
-abbrev pub FitsGroup : Result Group Unfit → Type 0
+abbrev pub FitsGroup : Result Group Limit → Type 0
 FitsGroup (Ok p) = Sized p
 FitsGroup (Err u) = Unit {0}
 

@@ -1,5 +1,5 @@
 -- A group that plays: what its memories hold from one happening to the next. Assumes nothing: these are definitions.
-use Rattle.std.specs.Prelude.{◌≡◌, ℕ, ◌+◌, ◌*◌, ◌<◌, ◌≤◌, Bool, true, false, ◌≢◌, List, ◌++◌, length, take, Ok, Err, Result}
+use Rattle.std.specs.Prelude.{◌≡◌, ℕ, suc, ◌+◌, ◌*◌, ◌<◌, ◌≤◌, Bool, true, false, ◌≢◌, List, ◌++◌, length, take, Ok, Err, Result}
 use Rattle.servers.specs.Server.{Event, timeout, request, comes, restart, garbled}
 use Rattle.servers.specs.World.{Group, World, limits, happens}
 use Rattle.servers.specs.Promise.{GoodGroup}
@@ -7,7 +7,7 @@ use Rattle.wire.specs.Write.{write_answer}
 use Rattle.wire.specs.Read.{read_event}
 use Rattle.wire.specs.Codec.{Slice}
 use Rattle.wire.specs.Sizes.{answer_size}
-use Rattle.wire_write.specs.Answers.{answer_of}
+use Rattle.wire_write.specs.Answers.{answer_length, answer_of}
 use Rattle.wire_write.specs.declared.answer.Answer as answers
 use Rattle.memory.specs.Program.{serves, server, called, says}
 use Rattle.group.specs.Journals.{Journals, world_in}
@@ -48,6 +48,14 @@ pub record Turned (words i at : ℕ) (bs m ys m' ys' : List ℕ) (r : answers.An
       take (at + length (write_answer (says serves (part words i m) (read_event bs)))) ys'
       ≡ take at ys ++ write_answer (says serves (part words i m) (read_event bs))
 
+-- and what is kept then
+pub record TurnedOn (p : code.Group) (k : Kept) (i end : ℕ) (bs m ys m' ys' : List ℕ) (k' : Kept) : Type 0 where
+  pub answer : answers.Answer
+  pub turned : Turned p.words i k.answers bs m ys m' ys' answer
+  pub happenings : k'.happenings ≡ suc k.happenings
+  pub events : k'.events ≡ end
+  pub answers : k'.answers ≡ k.answers + answer_length answer
+
 -- THE PROMISE OF ONE HAPPENING: what the memories tell of afterwards is what happens by the definitions, it was lived, each server's
 -- part is its memory after what it saw, and it is as if there were one server
 pub record Played (p : code.Group) (k : Kept) (i : ℕ) (e : Event) (xs ys : List ℕ) (k' : Kept) (m' xs' ys' : List ℕ) : Type 0 where
@@ -69,6 +77,11 @@ Why p k i bs xs ys Server = p.servers ≤ i
 Why p k i bs xs ys Message = from_server (read_event bs) ≡ true
 Why p k i bs xs ys Events = length xs < k.events + 9 + length bs
 Why p k i bs xs ys Answers = length ys < k.answers + p.longest
+
+-- the journals have room for an event of n bytes and its answer; or what any such event is denied for
+abbrev pub RoomOrWhy : code.Group → Kept → List ℕ → List ℕ → ℕ → Result (Unit {0}) Denied → Type 0
+RoomOrWhy p k xs ys n (Ok x) = (k.events + 9 + n ≤ length xs) × (k.answers + p.longest ≤ length ys)
+RoomOrWhy p k xs ys n (Err why) = (i : ℕ) (bs : List ℕ) → length bs ≡ n → Why p k i bs xs ys why
 
 -- played; or denied, for a reason, and nothing changed
 abbrev pub Outcome :

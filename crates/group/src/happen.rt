@@ -1,22 +1,19 @@
-// ONE HAPPENING: an event comes to a server of the group, and what it was and what was answered are kept.
-ghost use Rattle.std.specs.Prelude.{◌≡◌, ℕ, ◌+◌, ◌*◌, ◌<◌, ◌≤◌, List, length};
-ghost use Rattle.wire.specs.Sizes.{answer_size};
+// ONE HAPPENING: an event comes to a server of the group, and what it was and what was answered are kept. Memories and journals are lent
+// beside the group: a struct that held them would need a clause for each of the three references wherever it is passed.
+ghost use Rattle.std.specs.Prelude.{◌≡◌, ℕ, ◌+◌, ◌^◌, ◌<◌, ◌≤◌, List, length};
 ghost use Rattle.wire.specs.Read.{read_event};
-ghost use Rattle.state.specs.Held.{limits_of};
 ghost use Rattle.group.specs.Journals.{world_in};
 ghost use Rattle.group.specs.Letters.{message_coming};
-ghost use Rattle.group.specs.Parts.{part, CanHappen};
-ghost use Rattle.group.specs.Playing.{Playing, Turned, Outcome, from_server};
-ghost use Rattle.server.specs.Reached.{Reached};
+ghost use Rattle.group.specs.Parts.{CanHappen};
+ghost use Rattle.group.specs.Playing.{Playing, RoomOrWhy, TurnedOn, Outcome, from_server};
 
-use crate::journal::{HEAD, answer_bytes, put_came, put_coming};
+use crate::journal::{HEAD, put_came, put_coming};
 use server::step::step;
 use wire_read::event::read_event;
 use wire_read::parts::Event;
-use wire_write::answer::Answer;
 
 // What a group is opened with; how many words each server has, and how many bytes its longest answer.
-#[derive(Clone, Copy)]
+#[derive(Clone, Copy, PartialEq, Eq, Debug)]
 pub struct Group {
     pub servers: u64,
     pub clients: u64,
@@ -26,7 +23,7 @@ pub struct Group {
 }
 
 // How much is kept: happenings, and their bytes in the two journals.
-#[derive(Clone, Copy)]
+#[derive(Clone, Copy, PartialEq, Eq, Debug)]
 pub struct Kept {
     pub happenings: usize,
     pub events: usize,
@@ -42,23 +39,52 @@ pub enum Denied {
     Answers,
 }
 
-// A step of one server in its part of the memory, with its answer at a place.
+// That the journals have room for an event of so many bytes and for its answer.
+fn room_for(g: Group, kept: Kept, events: &[u8], answers: &[u8], len: usize) -> Result<(), Denied>
+    requires events { kept.events ≤ length events.now }
+    requires answers { kept.answers ≤ length answers.now }
+    requires size { len + 9 < 2 ^ 64 }
+    ensures { RoomOrWhy g kept events.now answers.now len result }
+{
+    if events.len() - kept.events < HEAD + len {
+        return Err(Denied::Events);
+    }
+    if answers.len() - kept.answers < g.longest {
+        return Err(Denied::Answers);
+    }
+    Ok(())
+}
+
+// A step of one server in its part of the memory, with its answer at the end of the others, once its event is in the journal of events
+// up to `end`. What is kept then.
 fn turn(
+    g: Group,
+    kept: Kept,
     mems: &mut [u64],
-    words: usize,
-    server: usize,
-    event: &[u8],
     answers: &mut [u8],
-    at: usize,
-) -> Answer
-    requires within { server * words + words ≤ length mems.old }
-    requires reached { Reached (limits_of (part words server mems.old)) (part words server mems.old) }
-    requires room { at + answer_size (limits_of (part words server mems.old)) ≤ length answers.old }
-    ensures { Turned words server at event.now mems.old answers.old
+    server: u8,
+    event: &[u8],
+    end: usize,
+) -> Kept
+    requires playing { (xs : List ℕ) × Playing g kept mems.old xs answers.old }
+    requires there { server < g.servers }
+    requires room { kept.answers + g.longest ≤ length answers.old }
+    requires past { kept.events < end }
+    ensures { TurnedOn g kept server end event.now mems.old answers.old
         mems.new answers.new result }
 {
-    let start = server * words;
-    step(&mut mems[start..start + words], event, &mut answers[at..])
+    let start = server as usize * g.words;
+    let answer = step(
+        &mut mems[start..start + g.words],
+        event,
+        &mut answers[kept.answers..],
+    );
+    let len = answer.len();
+    Kept {
+        happenings: kept.happenings + 1,
+        events: end,
+        answers: kept.answers + len,
+    }
 }
 
 // An event happens at a server of the group, unless there is no room to keep it: then nothing changes, and it says what is full.
@@ -77,32 +103,16 @@ pub fn happen(
     ensures { Outcome g kept server event.now mems.old events.old answers.old
         mems.new events.new answers.new result }
 {
-    if events.len() - kept.events < HEAD + event.len() {
-        return Err(Denied::Events);
-    }
-    if answers.len() - kept.answers < g.longest {
-        return Err(Denied::Answers);
-    }
+    room_for(g, kept, events, answers, event.len())?;
     let end = put_came(events, kept.events, server, event);
-    let answer = turn(mems, g.words, server as usize, event, answers, kept.answers);
-    Ok(Kept {
-        happenings: kept.happenings + 1,
-        events: end,
-        answers: kept.answers + answer_bytes(answer),
-    })
+    Ok(turn(g, kept, mems, answers, server, event, end))
 }
 
 // Whether bytes are read as a message from a server.
 fn is_message(event: &[u8]) -> bool
     ensures { result ≡ from_server (read_event event.now) }
 {
-    match read_event(event) {
-        Event::Comes(_, _) => true,
-        Event::Timeout => false,
-        Event::Request(_, _, _) => false,
-        Event::Restart => false,
-        Event::Garbled(_) => false,
-    }
+    matches!(read_event(event), Event::Comes(..))
 }
 
 // What comes from outside: a timer ends, a client asks, a server restarts, or bytes come that are no event. A message is denied.
@@ -148,12 +158,7 @@ pub fn come(
     ensures { Outcome g kept server (message_coming from start len answers.old) mems.old
         events.old answers.old mems.new events.new answers.new result }
 {
-    if events.len() - kept.events < HEAD + 2 + len {
-        return Err(Denied::Events);
-    }
-    if answers.len() - kept.answers < g.longest {
-        return Err(Denied::Answers);
-    }
+    room_for(g, kept, events, answers, len + 2)?;
     let end = put_coming(
         events,
         kept.events,
@@ -161,17 +166,6 @@ pub fn come(
         from,
         &answers[start..start + len],
     );
-    let answer = turn(
-        mems,
-        g.words,
-        server as usize,
-        &events[kept.events + HEAD..end],
-        answers,
-        kept.answers,
-    );
-    Ok(Kept {
-        happenings: kept.happenings + 1,
-        events: end,
-        answers: kept.answers + answer_bytes(answer),
-    })
+    let event = &events[kept.events + HEAD..end];
+    Ok(turn(g, kept, mems, answers, server, event, end))
 }

@@ -1,9 +1,9 @@
-// The journals: an event as it came, written at the end of the others, and how long an answer is.
+// The journals: an event as it came, written at the end of the others.
 ghost use Rattle.std.specs.Prelude.{◌≡◌, ◌+◌, ◌≤◌, ◌∷◌, length};
 ghost use Rattle.wire_write.specs.Put.{Writes};
-ghost use Rattle.group.specs.Journals.{write_came, answer_length};
+ghost use Rattle.group.specs.Journals.{write_came};
 
-use wire_write::answer::{Answer, write_comes};
+use wire_write::answer::write_comes;
 use wire_write::put::{write_byte, write_number, write_text};
 
 // What a happening has in the journal of events besides the event: the server, and how many bytes.
@@ -28,15 +28,4 @@ pub fn put_coming(events: &mut [u8], at: usize, server: u8, from: u8, message: &
     let size = write_byte(events, at, server);
     let event = write_number(events, size, message.len() as u64 + 2);
     write_comes(events, event, from, message)
-}
-
-// How many bytes an answer has.
-pub fn answer_bytes(answer: Answer) -> usize
-    ensures { result ≡ answer_length answer }
-{
-    match answer {
-        Answer::Refused(_, _) => 10,
-        Answer::NotLeader => 1,
-        Answer::Does(_, _, bytes) => bytes,
-    }
 }

@@ -8,23 +8,21 @@ ghost use Rattle.group.specs.Playing.{group_of};
 
 use crate::happen::{Group, Kept};
 use server::open::{answer_bytes, memory_words, open};
-use servers::limits::{Limits, Unfit};
+use servers::limits::{Limit, Limits};
 
 // A group of so many servers and clients, with room for so many entries, or the limit that is out of its range.
-pub fn sized(servers: u64, clients: u64, room: u64) -> Result<Group, Unfit>
+pub fn sized(servers: u64, clients: u64, room: u64) -> Result<Group, Limit>
     ensures value { result ≡ group_sized (opened servers 0 clients room) }
     ensures sized { FitsGroup result }
 {
-    match Limits::new(servers, 0, clients, room) {
-        Ok(l) => Ok(Group {
-            servers: l.servers,
-            clients: l.clients,
-            room: l.room,
-            words: memory_words(l),
-            longest: answer_bytes(l),
-        }),
-        Err(unfit) => Err(unfit),
-    }
+    let l = Limits::new(servers, 0, clients, room)?;
+    Ok(Group {
+        servers: l.servers,
+        clients: l.clients,
+        room: l.room,
+        words: memory_words(l),
+        longest: answer_bytes(l),
+    })
 }
 
 fn open_one(mem: &mut [u64], g: Group, me: u64)
@@ -49,6 +47,7 @@ pub fn open_group(g: Group, mems: &mut [u64]) -> Kept
     ensures none { result ≡ none_kept }
     ensures playing { PlaysNew g result mems.new }
 {
+    // by places, since of chunks that were lent a proof knows afterwards how long they are, and not what they hold
     for i in 0..g.servers {
         let at = i as usize * g.words;
         open_one(&mut mems[at..at + g.words], g, i);

@@ -1,14 +1,11 @@
-// What one line of a world says, or what was expected where it can't be read.
-ghost use Rattle.std.specs.Prelude.{ℕ, ◌≤◌, length, IfOk};
-
+// What one line of a world says, or what was expected where it can't be read. What has been read of a line is cut off its front.
+use crate::fault::Fault;
 use crate::text::{push_hex, push_text};
-use crate::words::{Word, next, number};
-use std::alloc::{AllocError, AllocFailed};
+use crate::words::{next, number};
 
 // What happens; the bytes of what a client asks, and of bytes that are no event, are handed over beside it.
 #[derive(Clone, Copy, PartialEq, Eq, Debug)]
 pub enum Line {
-    Nothing,
     Group {
         servers: u64,
         clients: u64,
@@ -34,164 +31,104 @@ pub enum Line {
     },
 }
 
-// Why a line can't be read.
-#[derive(Clone, Copy, PartialEq, Eq, Debug)]
-pub enum Fault {
-    Expected(&'static str),
-    NoMemory,
-}
-
-impl From<AllocError> for Fault {
-    fn from(_: AllocError) -> Fault {
-        Fault::NoMemory
-    }
-}
-
-impl<T: Drop> From<AllocFailed<T>> for Fault {
-    fn from(_: AllocFailed<T>) -> Fault {
-        Fault::NoMemory
-    }
-}
-
-// A number in the next word, and the place after it.
-fn number_at(line: &[u8], at: usize, what: &'static str) -> Result<(u64, usize), Fault>
-    requires { at ≤ length line.now }
-    ensures { IfOk result (λ v. v.1 ≤ length line.now) }
-{
-    let Word { from, to } = next(line, at);
-    match number(&line[from..to]) {
-        Some(n) => Ok((n, to)),
-        None => Err(Fault::Expected(what)),
-    }
+// A number in the next word, and what stands after it.
+fn number_in<'a>(line: &'a [u8], what: &'static str) -> Result<(u64, &'a [u8]), Fault> {
+    let (word, rest) = next(line).ok_or(Fault::Expected(what))?;
+    let n = number(word).ok_or(Fault::Expected(what))?;
+    Ok((n, rest))
 }
 
 // That the line ends here.
-fn ended(line: &[u8], at: usize, said: Line) -> Result<Line, Fault>
-    requires { at ≤ length line.now }
-{
-    if next(line, at).is_none() {
-        Ok(said)
-    } else {
-        Err(Fault::Expected("the end of the line"))
+fn ended(line: &[u8], said: Line) -> Result<Line, Fault> {
+    match next(line) {
+        None => Ok(said),
+        Some(_) => Err(Fault::Expected("the end of the line")),
     }
 }
 
-// A text in the next word, as its length and its bytes at the end of `event`; the place after it.
-fn text_at(line: &[u8], at: usize, event: &mut Vec<u8>, what: &'static str) -> Result<usize, Fault>
-    requires { at ≤ length line.now }
-    ensures { IfOk result (λ to. to ≤ length line.now) }
-{
-    let Word { from, to } = next(line, at);
+// A text in the next word, as its length and its bytes at the end of `event`; what stands after it.
+fn text_in<'a>(line: &'a [u8], event: &mut Vec<u8>, what: &'static str) -> Result<&'a [u8], Fault> {
+    let (word, rest) = next(line).ok_or(Fault::Expected(what))?;
     let mut bytes = Vec::new(*event.allocator());
-    if from == to || !push_text(&mut bytes, &line[from..to])? {
-        return Err(Fault::Expected(what));
-    }
+    push_text(&mut bytes, word, what)?;
     event.extend_from_slice(&(bytes.len() as u64).to_le_bytes())?;
     event.extend_from_slice(&bytes)?;
-    Ok(to)
+    Ok(rest)
 }
 
 // A text or none in the next word.
-fn perhaps_at(line: &[u8], at: usize, event: &mut Vec<u8>) -> Result<usize, Fault>
-    requires { at ≤ length line.now }
-    ensures { IfOk result (λ to. to ≤ length line.now) }
-{
-    let Word { from, to } = next(line, at);
-    if &line[from..to] == b"\\-".as_slice() {
+fn perhaps_in<'a>(line: &'a [u8], event: &mut Vec<u8>) -> Result<&'a [u8], Fault> {
+    if let Some((b"\\-", rest)) = next(line) {
         event.push(0)?;
-        return Ok(to);
+        return Ok(rest);
     }
     event.push(1)?;
-    text_at(
+    text_in(
         line,
-        at,
         event,
         "the text that is expected there, or \\- for none",
     )
 }
 
-// A command, as its bytes at the end of `event`; the place after it.
-fn command_at(line: &[u8], at: usize, event: &mut Vec<u8>) -> Result<usize, Fault>
-    requires { at ≤ length line.now }
-    ensures { IfOk result (λ to. to ≤ length line.now) }
-{
-    let Word { from, to } = next(line, at);
-    let word = &line[from..to];
-    let tag = if word == b"get".as_slice() {
-        0
-    } else if word == b"put".as_slice() {
-        1
-    } else if word == b"remove".as_slice() {
-        2
-    } else if word == b"swap".as_slice() {
-        3
-    } else if word == b"drop-if".as_slice() {
-        4
-    } else {
-        return Err(Fault::Expected("get, put, remove, swap or drop-if"));
-    };
+// A command's number and the name that it is about.
+fn named_in<'a>(line: &'a [u8], tag: u8, event: &mut Vec<u8>) -> Result<&'a [u8], Fault> {
     event.push(tag)?;
-    let named = text_at(line, to, event, "a name")?;
-    match tag {
-        0 | 2 => Ok(named),
-        3 => text_at(line, perhaps_at(line, named, event)?, event, "a text"),
-        _ => text_at(line, named, event, "a text"),
+    text_in(line, event, "a name")
+}
+
+// A command, as its bytes at the end of `event`; what stands after it.
+fn command_in<'a>(line: &'a [u8], event: &mut Vec<u8>) -> Result<&'a [u8], Fault> {
+    let expected = Fault::Expected("get, put, remove, swap or drop-if");
+    let (word, rest) = next(line).ok_or(expected)?;
+    match word {
+        b"get" => named_in(rest, 0, event),
+        b"put" => text_in(named_in(rest, 1, event)?, event, "a text"),
+        b"remove" => named_in(rest, 2, event),
+        b"swap" => {
+            let rest = named_in(rest, 3, event)?;
+            text_in(perhaps_in(rest, event)?, event, "a text")
+        }
+        b"drop-if" => text_in(named_in(rest, 4, event)?, event, "a text"),
+        _ => Err(expected),
     }
 }
 
 // What a client asks: client, number and command, as an event's bytes.
-fn ask_at(line: &[u8], at: usize, server: u64, event: &mut Vec<u8>) -> Result<Line, Fault>
-    requires { at ≤ length line.now }
-{
-    let (client, at) = number_at(line, at, "a client's number")?;
-    let (id, at) = number_at(line, at, "the number of what it asks")?;
+fn ask_in(line: &[u8], server: u64, event: &mut Vec<u8>) -> Result<Line, Fault> {
+    let (client, rest) = number_in(line, "a client's number")?;
+    let (id, rest) = number_in(rest, "the number of what it asks")?;
     event.push(1)?;
     event.extend_from_slice(&client.to_le_bytes())?;
     event.extend_from_slice(&id.to_le_bytes())?;
-    let at = command_at(line, at, event)?;
-    ended(line, at, Line::Ask { server })
+    ended(command_in(rest, event)?, Line::Ask { server })
 }
 
-fn bytes_at(line: &[u8], at: usize, server: u64, event: &mut Vec<u8>) -> Result<Line, Fault>
-    requires { at ≤ length line.now }
-{
-    let Word { from, to } = next(line, at);
-    if !push_hex(event, &line[from..to])? {
-        return Err(Fault::Expected("bytes as pairs of small hex digits"));
-    }
-    ended(line, to, Line::Bytes { server })
+// Bytes as they are; there may be none.
+fn bytes_in(line: &[u8], server: u64, event: &mut Vec<u8>) -> Result<Line, Fault> {
+    let (digits, rest) = next(line).unwrap_or((line, line));
+    push_hex(event, digits)?;
+    ended(rest, Line::Bytes { server })
 }
 
 // What happens at a server.
-fn at_server(line: &[u8], at: usize, server: u64, event: &mut Vec<u8>) -> Result<Line, Fault>
-    requires { at ≤ length line.now }
-{
-    let Word { from, to } = next(line, at);
-    let word = &line[from..to];
-    if word == b"time".as_slice() {
-        return ended(line, to, Line::Time { server });
+fn at_server(line: &[u8], server: u64, event: &mut Vec<u8>) -> Result<Line, Fault> {
+    let expected = Fault::Expected("time, ask, restart or bytes");
+    let (word, rest) = next(line).ok_or(expected)?;
+    match word {
+        b"time" => ended(rest, Line::Time { server }),
+        b"restart" => ended(rest, Line::Restart { server }),
+        b"ask" => ask_in(rest, server, event),
+        b"bytes" => bytes_in(rest, server, event),
+        _ => Err(expected),
     }
-    if word == b"restart".as_slice() {
-        return ended(line, to, Line::Restart { server });
-    }
-    if word == b"ask".as_slice() {
-        return ask_at(line, to, server, event);
-    }
-    if word == b"bytes".as_slice() {
-        return bytes_at(line, to, server, event);
-    }
-    Err(Fault::Expected("time, ask, restart or bytes"))
 }
 
-fn group_at(line: &[u8], at: usize) -> Result<Line, Fault>
-    requires { at ≤ length line.now }
-{
-    let (servers, at) = number_at(line, at, "the number of servers")?;
-    let (clients, at) = number_at(line, at, "the number of clients")?;
-    let (room, at) = number_at(line, at, "the room of a log")?;
+fn group_in(line: &[u8]) -> Result<Line, Fault> {
+    let (servers, rest) = number_in(line, "the number of servers")?;
+    let (clients, rest) = number_in(rest, "the number of clients")?;
+    let (room, rest) = number_in(rest, "the room of a log")?;
     ended(
-        line,
-        at,
+        rest,
         Line::Group {
             servers,
             clients,
@@ -200,25 +137,31 @@ fn group_at(line: &[u8], at: usize) -> Result<Line, Fault>
     )
 }
 
-// The line; `event` has what is asked, or the bytes that come, as an event's bytes.
-pub fn read_line(line: &[u8], event: &mut Vec<u8>) -> Result<Line, Fault> {
+fn come_in(line: &[u8]) -> Result<Line, Fault> {
+    let (letter, rest) = number_in(line, "a letter's number")?;
+    ended(rest, Line::Come { letter })
+}
+
+fn show_in(line: &[u8]) -> Result<Line, Fault> {
+    let (server, rest) = number_in(line, "a server's number")?;
+    ended(rest, Line::Show { server })
+}
+
+// The line, if it says anything; `event` has what is asked, or the bytes that come, as an event's bytes.
+pub fn read_line(line: &[u8], event: &mut Vec<u8>) -> Result<Option<Line>, Fault> {
     event.clear();
-    let Word { from, to } = next(line, 0);
-    let word = &line[from..to];
-    if from == to || line[from] == b'#' {
-        return Ok(Line::Nothing);
-    }
-    if word == b"group".as_slice() {
-        return group_at(line, to);
-    }
-    if word == b"come".as_slice() {
-        let (letter, at) = number_at(line, to, "a letter's number")?;
-        return ended(line, at, Line::Come { letter });
-    }
-    if word == b"show".as_slice() {
-        let (server, at) = number_at(line, to, "a server's number")?;
-        return ended(line, at, Line::Show { server });
-    }
-    let (server, at) = number_at(line, 0, "group, come, show or a server's number")?;
-    at_server(line, at, server, event)
+    let Some((word, rest)) = next(line) else {
+        return Ok(None);
+    };
+    let said = match word {
+        [b'#', ..] => return Ok(None),
+        b"group" => group_in(rest)?,
+        b"come" => come_in(rest)?,
+        b"show" => show_in(rest)?,
+        _ => {
+            let (server, rest) = number_in(line, "group, come, show or a server's number")?;
+            at_server(rest, server, event)?
+        }
+    };
+    Ok(Some(said))
 }

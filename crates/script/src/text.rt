@@ -1,9 +1,14 @@
 // Names and texts as words of a line: a byte from 33 to 126 other than `\` stands for itself, any other is `\` and two small
 // hex digits; `\.` is the empty text.
-use std::alloc::AllocError;
+ghost use Rattle.std.specs.Prelude.{◌≡◌, ℕ, ◌<◌, ◌≢◌, length, MatchOption, IfSome};
+ghost use Rattle.std.specs.Char.{digit_char};
 
-// What a hex digit counts.
-pub fn hex(d: u8) -> Option<u8> {
+use crate::fault::Fault;
+
+// What a hex digit counts. The library's `to_digit` would take capitals too.
+pub fn hex(d: u8) -> Option<u8>
+    ensures { MatchOption result ((v : ℕ) → v < 16 → digit_char v ≢ d) (λ v. (v < 16) × (digit_char v ≡ d)) }
+{
     match d {
         b'0'..=b'9' => Some(d - b'0'),
         b'a'..=b'f' => Some(d - b'a' + 10),
@@ -12,55 +17,46 @@ pub fn hex(d: u8) -> Option<u8> {
 }
 
 fn byte(high: u8, low: u8) -> Option<u8> {
-    let h = hex(high)?;
-    let l = hex(low)?;
-    if h < 16 && l < 16 {
-        Some(h * 16 + l)
+    Some(hex(high)? * 16 + hex(low)?)
+}
+
+// Bytes as pairs of hex digits, put at the end of `out`.
+pub fn push_hex(out: &mut Vec<u8>, digits: &[u8]) -> Result<(), Fault> {
+    let expected = Fault::Expected("bytes as pairs of small hex digits");
+    let mut rest = digits;
+    while let [high, low, after @ ..] = rest {
+        out.push(byte(*high, *low).ok_or(expected)?)?;
+        rest = after;
+    }
+    if rest.is_empty() {
+        Ok(())
     } else {
-        None
+        Err(expected)
     }
 }
 
-// Bytes as pairs of hex digits, put at the end of `out`; false where they are none.
-pub fn push_hex(out: &mut Vec<u8>, digits: &[u8]) -> Result<bool, AllocError> {
-    if digits.len() % 2 != 0 {
-        return Ok(false);
+// The byte that the front of a word stands for, and what stands after it.
+fn first(word: &[u8]) -> Option<(u8, &[u8])>
+    ensures { IfSome result (λ p. length p.1.now < length word.now) }
+{
+    match word {
+        [b'\\', high, low, rest @ ..] => Some((byte(*high, *low)?, rest)),
+        [b'\\', ..] => None,
+        [b @ b'!'..=b'~', rest @ ..] => Some((*b, rest)),
+        _ => None,
     }
-    let mut i = 0;
-    while i + 1 < digits.len() {
-        let Some(b) = byte(digits[i], digits[i + 1]) else {
-            return Ok(false);
-        };
-        out.push(b)?;
-        i += 2;
-    }
-    Ok(true)
 }
 
-// The bytes that a word stands for, put at the end of `out`; false where it stands for none.
-pub fn push_text(out: &mut Vec<u8>, word: &[u8]) -> Result<bool, AllocError> {
+// The bytes that a word stands for, put at the end of `out`; `what` is expected where it stands for none.
+pub fn push_text(out: &mut Vec<u8>, word: &[u8], what: &'static str) -> Result<(), Fault> {
     if word == b"\\.".as_slice() {
-        return Ok(true);
+        return Ok(());
     }
-    let mut i = 0;
-    while i < word.len() {
-        let b = word[i];
-        if b < 33 || b > 126 {
-            return Ok(false);
-        }
-        if b != b'\\' {
-            out.push(b)?;
-            i += 1;
-        } else {
-            if word.len() - i < 3 {
-                return Ok(false);
-            }
-            let Some(escaped) = byte(word[i + 1], word[i + 2]) else {
-                return Ok(false);
-            };
-            out.push(escaped)?;
-            i += 3;
-        }
+    let mut rest = word;
+    while !rest.is_empty() {
+        let (b, after) = first(rest).ok_or(Fault::Expected(what))?;
+        out.push(b)?;
+        rest = after;
     }
-    Ok(true)
+    Ok(())
 }

@@ -1,56 +1,46 @@
-// The words of a line, by their places: bytes between spaces.
-ghost use Rattle.std.specs.Prelude.{◌≡◌, ℕ, ◌≤◌, Bool, length};
+// The words of a line: bytes between spaces.
+ghost use Rattle.std.specs.Prelude.{◌≡◌, ◌^◌, ◌≤◌, [], length, MatchOption};
+ghost use Rattle.std.specs.List.{take_while};
+ghost use Rattle.std.specs.Str.Parse.{digits_value, IsNumeral};
+ghost use Rattle.script.specs.Words.{in_word, is_space, without_spaces, FirstWord};
 
-// Bytes from one place up to another; none where the line has no more words.
-#[derive(Clone, Copy, PartialEq, Eq, Debug)]
-pub struct Word {
-    pub from: usize,
-    pub to: usize,
-}
-
-impl Word {
-    pub fn is_none(self) -> bool {
-        self.from >= self.to
-    }
-}
-
-fn is_space(b: u8) -> bool {
-    b == b' ' || b == b'\t' || b == b'\r'
-}
-
-// The first place at or after this one where spaces begin, or end.
-fn skip(line: &[u8], at: usize, spaces: bool) -> usize
-    requires { at ≤ length line.now }
-    ensures { (at ≤ result) × (result ≤ length line.now) }
+fn is_space(b: u8) -> bool
+    ensures { result ≡ is_space b }
 {
-    let mut i = at;
-    while i < line.len() && is_space(line[i]) == spaces {
-        i += 1;
-    }
-    i
+    matches!(b, b' ' | b'\t' | b'\r')
 }
 
-// The next word at or after a place.
-pub fn next(line: &[u8], at: usize) -> Word
-    requires { at ≤ length line.now }
-    ensures { (at ≤ result.from) × ((result.from ≤ result.to) × (result.to ≤ length line.now)) }
+// How many bytes in front are spaces.
+fn spaces(text: &[u8]) -> usize
+    ensures { result ≡ length (take_while is_space text.now) }
 {
-    let from = skip(line, at, true);
-    let to = skip(line, from, false);
-    Word { from, to }
+    text.iter().take_while(|b| is_space(**b)).count()
 }
 
-// The number that decimal digits write, if they are digits and it is below 2^64.
-pub fn number(digits: &[u8]) -> Option<u64> {
-    if digits.is_empty() {
+// How many bytes there are before a space.
+fn before_space(text: &[u8]) -> usize
+    ensures { result ≡ length (take_while in_word text.now) }
+{
+    text.iter().take_while(|b| !is_space(**b)).count()
+}
+
+// The next word of a line, and what stands after it; none where the line has no more words.
+pub fn next(line: &[u8]) -> Option<(&[u8], &[u8])>
+    ensures { MatchOption result (without_spaces line.now ≡ []) (λ p. FirstWord line.now p.0.now p.1.now) }
+{
+    let text = &line[spaces(line)..];
+    if text.is_empty() {
         return None;
     }
-    let mut n: u64 = 0;
-    for d in digits {
-        if *d < b'0' || *d > b'9' {
-            return None;
-        }
-        n = n.checked_mul(10)?.checked_add(u64::from(*d - b'0'))?;
+    Some(text.split_at(before_space(text)))
+}
+
+// The number that decimal digits write, if it is below 2^64. `parse` would take a sign before them.
+pub fn number(digits: &[u8]) -> Option<u64>
+    ensures { MatchOption result (IsNumeral 10 digits.now → 2 ^ 64 ≤ digits_value 10 digits.now) (λ n. IsNumeral 10 digits.now × (n ≡ digits_value 10 digits.now)) }
+{
+    if digits.starts_with(b"+") {
+        return None;
     }
-    Some(n)
+    str::from_utf8(digits).ok()?.parse::<u64>().ok()
 }

@@ -8,12 +8,12 @@ ghost use Rattle.servers.specs.Promise.{GoodLimits};
 ghost use Rattle.memory.specs.Program.{serves};
 ghost use Rattle.server.specs.Reached.{Reached};
 
-use anyhow::anyhow;
+use anyhow::{anyhow, bail};
 use server::open::{answer_bytes, memory_words, open};
 use servers::limits::Limits;
 use session::run::{Taken, run};
 use shell::arguments::limits;
-use shell::feed::{ended, fill_if, keep};
+use shell::feed::{ended, fill, keep};
 use std::io::{Read, Write};
 use std::process::ExitCode;
 use std::{env, fs};
@@ -40,15 +40,16 @@ fn serve<R: Read>(
         rt.stdout().write_all(&out[0..written])?;
         keep(&mut buf, read, filled);
         let left = filled - read;
-        filled = fill_if(read == 0, input, &mut buf, left)?;
-        if read == 0 && filled == left {
+        if read > 0 {
+            filled = left;
+            continue;
+        }
+        filled = fill(input, &mut buf, left)?;
+        if filled == left {
             break;
         }
     }
-    match ended(filled) {
-        Ok(()) => Ok(()),
-        Err(cut_off) => Err(anyhow!(cut_off.to_string(rt.alloc())?)),
-    }
+    Ok(ended(filled)?)
 }
 
 // Opens a server in its memory, and answers an input.
@@ -61,10 +62,8 @@ fn open_and_serve<R: Read>(
 ) -> anyhow::Result<()>
     requires good { GoodLimits serves (limits_for serves l) }
 {
-    match open(mem, l, out.len()) {
-        Ok(()) => serve(rt, input, mem, out),
-        Err(_) => Err(anyhow!("the memory that it was given is too short")),
-    }
+    open(mem, l, out.len())?;
+    serve(rt, input, mem, out)
 }
 
 // The bytes for answers have room for the record of a longest answer, and for many short ones.
@@ -85,28 +84,23 @@ fn run_with(rt: &HostRuntime) -> anyhow::Result<()> {
         args.next(),
         args.next(),
     ) else {
-        return Err(anyhow!(USAGE));
+        bail!(USAGE);
     };
     let file = args.next();
     if args.next().is_some() {
-        return Err(anyhow!(USAGE));
+        bail!(USAGE);
     }
-    let l = match limits(
+    let l = limits(
         servers.as_str(),
         me.as_str(),
         clients.as_str(),
         room.as_str(),
-    ) {
-        Ok(l) => l,
-        Err(complaint) => return Err(anyhow!(complaint.to_string(rt.alloc())?)),
-    };
+    )?;
     let Some(path) = file else {
         return start(rt, l, &mut rt.stdin());
     };
-    match fs::open(rt, path.as_str()) {
-        Ok(mut file) => start(rt, l, &mut file),
-        Err(e) => Err(anyhow!(format!(in rt.alloc(); "{path}: {e}")?)),
-    }
+    let mut file = fs::open(rt, path.as_str()).map_err(|e| anyhow!("{path}: {e}"))?;
+    start(rt, l, &mut file)
 }
 
 fn main(rt: HostRuntime) -> ExitCode {

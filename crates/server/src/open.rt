@@ -8,6 +8,8 @@ ghost use Rattle.server.specs.Opening.{memory_size, lent, Opens};
 ghost use Rattle.server.specs.Heads.{head_words};
 
 use servers::limits::Limits;
+use std::error::Error;
+use std::fmt;
 use store::start::open_region;
 
 // What is too short: the memory, which has to be just as long as is asked for, or the bytes for answers.
@@ -16,6 +18,14 @@ pub enum Short {
     Memory,
     Answers,
 }
+
+impl fmt::Display for Short {
+    fn fmt<W: fmt::Write>(&self, f: &mut fmt::Formatter<W>) -> fmt::Result {
+        f.write_str("the memory that it was given is too short")
+    }
+}
+
+impl Error for Short {}
 
 // How many words a server needs.
 pub fn memory_words(l: Limits) -> usize

@@ -10,7 +10,6 @@ use std::alloc::{AllocError, Global};
 use std::test::Fail;
 use store::bytes::look_up;
 use texts::pack::write_text;
-use wire_write::answer::answer_len;
 
 pub const WORDS: usize = 527;
 
@@ -36,7 +35,7 @@ pub fn take(heap: Global, mem: &mut [u64], event: &[u8]) -> Result<Vec<u8>, Allo
     ensures live { Live mem.new }
 {
     let mut out = [0u8; BYTES];
-    let len = answer_len(step(mem, event, &mut out));
+    let len = step(mem, event, &mut out).len();
     Vec::from_slice(heap, &out[..len.min(BYTES)])
 }
 

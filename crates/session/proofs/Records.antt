@@ -1,13 +1,14 @@
 -- An answer's record: the answer is written past the room for its length, and then its length.
-use Rattle.std.proofs.Common.{◌≡◌, ℕ, ◌+◌, ◌-◌, ◌≤◌, List, ◌++◌, length, take, drop, sym, refl, ap, ◌∙◌, subst, arith}
+use Rattle.std.proofs.Common.{◌≡◌, ℕ, ◌+◌, ◌-◌, ◌≤◌, List, ◌++◌, length, take, drop, sym, ap, ◌∙◌, subst, arith}
 use borrow.Rule.Slice.PartMut.{put_mid}
 use Rattle.std.proofs.lemmas.List.{append_assoc, length-append, length-drop, take_at, drop_at, length-take-le, take-append-drop}
 use Rattle.std.proofs.lemmas.Slice.{take-put_mid_below}
 use Rattle.servers.specs.Server as server
 use Rattle.wire.specs.Write.{write_number, write_record, write_answer}
-use Rattle.wire_write.specs.Answers.{answer_of}
+use Rattle.wire_write.specs.Answers.{answer_length}
 use Rattle.wire_write.specs.Put.{Writes}
 use Rattle.wire_write.specs.declared.answer.Answer.{Answer}
+use Rattle.wire_write.proofs.Answering.{length_answer}
 use Rattle.wire_write.proofs.Putting.{length_put}
 use Rattle.wire_write.proofs.Texts.{length_number}
 use Rattle.wire.specs.Read.{read_event}
@@ -15,13 +16,7 @@ use Rattle.memory.specs.Program.{serves, says}
 use Rattle.state.specs.Held.{limits_of}
 use Rattle.server.specs.Reached.{Reached}
 use Rattle.server.specs.Answered.{Stepped}
-use Rattle.session.specs.Running.{answer_length, RanOne}
-
-pub length_answer : (a : server.Answer) → answer_length (answer_of a) ≡ length (write_answer a)
-unfolding write_number
-length_answer (server.refused j k) = refl
-length_answer server.not_leader = refl
-length_answer (server.does ss ls) = refl
+use Rattle.session.specs.Running.{RanOne}
 
 -- the answer stands in a part from at + 8 on, then its length is written before it
 pub recorded : (at k n : ℕ) (xs ys bs zs : List ℕ) (r : ℕ) → at + 8 ≤ length xs → take (length bs) ys ≡ bs → n ≡ length bs

@@ -4,18 +4,10 @@ use Rattle.std.specs.Prelude.{◌≡◌, ℕ, ◌+◌, ◌<◌, ◌≤◌, true,
 use Rattle.wire.specs.Read.{got, read_event, read_text}
 use Rattle.wire_read.specs.Means.{is_got}
 use Rattle.wire.specs.Write.{write_answer, write_record}
-use Rattle.wire_write.specs.declared.answer.Answer.{Answer}
-use Rattle.wire_write.specs.declared.answer.Answer.TheVariants.{Refused, NotLeader, Does}
 use Rattle.memory.specs.Program.{serves, called, says}
 use Rattle.state.specs.Held.{limits_of}
 use Rattle.server.specs.Reached.{Reached}
 use Rattle.session.specs.declared.run.Taken.{Taken}
-
--- how many bytes an answer has
-abbrev pub answer_length : Answer → ℕ
-answer_length (Refused j k) = 10
-answer_length NotLeader = 1
-answer_length (Does n m len) = len
 
 -- the record of the answer to an event's bytes
 abbrev pub answer_record : List ℕ → List ℕ → List ℕ

@@ -5,31 +5,20 @@ ghost use Rattle.wire.specs.Sizes.{answer_size};
 ghost use Rattle.wire_read.specs.Means.{TextIn, text_of};
 ghost use Rattle.state.specs.Held.{limits_of};
 ghost use Rattle.server.specs.Reached.{Reached};
-ghost use Rattle.session.specs.Running.{answer_length, Ended, Ran, RanOne};
+ghost use Rattle.session.specs.Running.{Ended, Ran, RanOne};
 
 use server::open::answer_bytes;
 use server::step::step;
 use state::limits::limits;
 use wire_read::parts::Text;
 use wire_read::read::read_text;
-use wire_write::answer::Answer;
 use wire_write::put::write_number;
 
 // How many bytes of records were read, and of answers' records written.
-#[derive(Clone, Copy)]
+#[derive(Clone, Copy, PartialEq, Eq, Debug)]
 pub struct Taken {
     pub read: usize,
     pub written: usize,
-}
-
-fn answer_len(answer: Answer) -> usize
-    ensures { result ≡ answer_length answer }
-{
-    match answer {
-        Answer::Refused(..) => 10,
-        Answer::NotLeader => 1,
-        Answer::Does(_, _, len) => len,
-    }
 }
 
 // One event: its answer is written past the room for its length. Returns the place after it.
@@ -44,7 +33,7 @@ fn run_one(mem: &mut [u64], records: &[u8], event: Text, out: &mut [u8], at: usi
     let from = event.at;
     let to = from + event.len;
     let answer = step(mem, &records[from..to], &mut out[first..]);
-    let len = answer_len(answer);
+    let len = answer.len();
     write_number(out, at, len as u64);
     first + len
 }
@@ -70,16 +59,14 @@ pub fn run(mem: &mut [u64], records: &[u8], out: &mut [u8]) -> Taken
         written: 0,
     };
     'taking: while size <= out.len() - done.written {
-        match read_text(records, done.read) {
-            Ok((event, next)) => {
-                let written = run_one(mem, records, event, out, done.written);
-                done = Taken {
-                    read: next,
-                    written,
-                };
-            }
-            Err(_) => break 'taking,
-        }
+        let Ok((event, next)) = read_text(records, done.read) else {
+            break 'taking;
+        };
+        let written = run_one(mem, records, event, out, done.written);
+        done = Taken {
+            read: next,
+            written,
+        };
     }
     done
 }

@@ -1,7 +1,8 @@
 // Writers of bytes, numbers and texts. Each writes at a place, changes nothing else, and returns the place after what it wrote.
 ghost use Rattle.std.specs.Prelude.{◌≡◌, ◌+◌, ◌≤◌, [], ◌∷◌, length};
+ghost use Rattle.texts.specs.Means.{perhaps_of};
 ghost use Rattle.wire_write.specs.Put.{Writes};
-ghost use Rattle.wire.specs.Write.{bytes_of, write_bool, write_number, write_perhaps, write_text};
+ghost use Rattle.wire.specs.Write.{write_bool, write_number, write_perhaps, write_text};
 
 pub fn write_byte(out: &mut [u8], at: usize, x: u8) -> usize
     requires { at + 1 ≤ length out.old }
@@ -13,18 +14,12 @@ pub fn write_byte(out: &mut [u8], at: usize, x: u8) -> usize
 }
 
 // Eight bytes, the lowest first.
-fn number_bytes(x: u64) -> [u8; 8]
-    ensures { result ≡ bytes_of 8 x }
-{
-    x.to_le_bytes()
-}
-
 pub fn write_number(out: &mut [u8], at: usize, x: u64) -> usize
     requires { at + 8 ≤ length out.old }
     ensures bytes { Writes at (write_number x) out.old out.new result }
     ensures next { result ≡ at + 8 }
 {
-    out[at..at + 8].copy_from_slice(&number_bytes(x));
+    out[at..at + 8].copy_from_slice(&x.to_le_bytes());
     at + 8
 }
 
@@ -45,11 +40,7 @@ pub fn write_bool(out: &mut [u8], at: usize, x: bool) -> usize
     ensures bytes { Writes at (write_bool x) out.old out.new result }
     ensures next { result ≡ at + 1 }
 {
-    if x {
-        write_byte(out, at, 1)
-    } else {
-        write_byte(out, at, 0)
-    }
+    write_byte(out, at, u8::from(x))
 }
 
 // A text is its length and its bytes.
@@ -63,19 +54,16 @@ pub fn write_text(out: &mut [u8], at: usize, t: &[u8]) -> usize
 }
 
 // A text or none.
-pub fn write_none(out: &mut [u8], at: usize) -> usize
-    requires { at + 1 ≤ length out.old }
-    ensures bytes { Writes at (write_perhaps []) out.old out.new result }
-    ensures next { result ≡ at + 1 }
+pub fn write_perhaps(out: &mut [u8], at: usize, text: Option<&[u8]>) -> usize
+    requires { at + length (write_perhaps (perhaps_of text)) ≤ length out.old }
+    ensures bytes { Writes at (write_perhaps (perhaps_of text.entry)) out.old out.new result }
+    ensures next { result ≡ at + length (write_perhaps (perhaps_of text.entry)) }
 {
-    write_byte(out, at, 0)
-}
-
-pub fn write_some(out: &mut [u8], at: usize, t: &[u8]) -> usize
-    requires { at + 9 + length t.now ≤ length out.old }
-    ensures bytes { Writes at (write_perhaps (t.now ∷ [])) out.old out.new result }
-    ensures next { result ≡ at + 9 + length t.now }
-{
-    let next = write_byte(out, at, 1);
-    write_text(out, next, t)
+    match text {
+        Some(t) => {
+            let next = write_byte(out, at, 1);
+            write_text(out, next, t)
+        }
+        None => write_byte(out, at, 0),
+    }
 }

@@ -2,13 +2,14 @@ use Rattle.std.proofs.Common.{ℕ, List, length, arith}
 use Rattle.wire.specs.Read.{read_event}
 use Rattle.wire.proofs.Places.{read_is_readable}
 use Rattle.state.specs.Held.{limits_of}
+use Rattle.server.proofs.Below.{slice}
 use Rattle.server.proofs.Reaching.{reached_held, reached_limits, reached_self, reached_room, reached_on, stepped}
 use Rattle.server.proofs.step.step.Goals as goal
 
 pub act-requires : goal.act-requires
 act-requires c =
     let m : List ℕ = c.args.mem.now in
-    let p = read_is_readable c.args.event.now c.are_bytes.ensures in
+    let p = read_is_readable c.args.event.now (slice c.args.event.now (λ i. let f = c.type_inv.event i in omega arith) (omega arith)) in
     let room = c.requires.room in
     record {
       held = reached_held (limits_of m) m c.requires.reached;
@@ -20,7 +21,7 @@ act-requires c =
 pub returns : goal.returns
 returns c =
     let m : List ℕ = c.args.mem.now in
-    let p = read_is_readable c.args.event.now c.are_bytes.ensures in
+    let p = read_is_readable c.args.event.now (slice c.args.event.now (λ i. let f = c.type_inv.event i in omega arith) (omega arith)) in
     let s = stepped m c.args.event.now c.args.out.now c.act.new.mem c.act.new.out c.act.result c.requires.reached p
     c.act.ensures in
     let m' : List ℕ = c.act.new.mem in

@@ -16,5 +16,5 @@ returns c =
     let s = c.step-answer.ensures.done in
     let long = s.bytes.long in
     ran_one {bs = take c.args.event.len (drop from rs)} {xs = xs} {at = c.args.at} {k = length xs - a}
-    (ap (λ (n : ℕ). take n (drop from rs)) size) s (omega arith) refl (omega arith) c.answer_len-len.ensures
+    (ap (λ (n : ℕ). take n (drop from rs)) size) s (omega arith) refl (omega arith) (assumption)
     c.write_number.ensures.bytes c.step-answer.ensures.reached c.step-answer.ensures.limits
