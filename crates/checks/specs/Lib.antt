@@ -1,4 +1,3 @@
 pub mod Refusals
-pub mod Fields
 pub mod Outcome
 pub mod Steps

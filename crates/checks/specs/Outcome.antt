@@ -3,14 +3,13 @@
 use Rattle.std.specs.Prelude.{◌≡◌, ℕ, ◌+◌, ◌<◌, ◌≤◌, Bool, true, ◌≢◌, List, length, Ok, Err, Result}
 use Rattle.servers.specs.Store.{pick}
 use Rattle.servers.specs.Server as server
-use Rattle.servers.specs.Server.{place, in_a_row, last_of_all}
-use Rattle.wire_read.specs.Means.{means, entries_of, message_of}
+use Rattle.servers.specs.Server.{place, short, in_a_row, last_of_all}
+use Rattle.wire_read.specs.Means.{means, command_of, entries_of, message_of}
 use Rattle.wire_read.specs.declared.parts.Event.{Event}
 use Rattle.wire_read.specs.declared.parts.Event.TheVariants.{Timeout, Request, Comes, Restart, Garbled}
 use Rattle.wire_read.specs.declared.parts.Message.{Message}
 use Rattle.wire_read.specs.declared.parts.Message.TheVariants.{AskVote, Vote, Append, Appended}
 use Rattle.checks.specs.Refusals.{by_fields, good_entries, in_range, in_row}
-use Rattle.checks.specs.Fields.{Brief}
 use Rattle.checks.specs.declared.refusal.Refusal.{Refusal}
 use Rattle.checks.specs.declared.refusal.Refusal.TheVariants.{NoEvent, OutOfRange, OutOfRow, LogFull, LastTerm}
 
@@ -37,12 +36,12 @@ outcome (Err x) = refusal_number x
 abbrev pub ordered : {V : Type 0} → Bool → Bool → V → Result V Refusal
 ordered fields row v = pick fields (pick row (Ok v) (Err OutOfRow)) (Err OutOfRange)
 
-abbrev pub decided : server.Limits → List ℕ → Event → Result Event Refusal
-decided l bs Timeout = ordered (in_range l server.timeout) true Timeout
-decided l bs (Request c k x) = ordered (in_range l (means bs (Request c k x))) true (Request c k x)
-decided l bs (Comes h m) = ordered (in_range l (means bs (Comes h m))) (in_row l (message_of bs m)) (Comes h m)
-decided l bs Restart = ordered (in_range l server.restart) true Restart
-decided l bs (Garbled n) = Err (NoEvent n)
+abbrev pub decided : server.Limits → Event → Result Event Refusal
+decided l Timeout = ordered (in_range l server.timeout) true Timeout
+decided l (Request c k x) = ordered (in_range l (means (Request c k x))) true (Request c k x)
+decided l (Comes h m) = ordered (in_range l (means (Comes h m))) (in_row l (message_of m)) (Comes h m)
+decided l Restart = ordered (in_range l server.restart) true Restart
+decided l (Garbled n) = Err (NoEvent n)
 
 -- WHAT AN EVENT HAS PASSED, in the form that those who do it need
 pub record PassedAppend (l : server.Limits) (i n : ℕ) (es : List server.Entry) : Type 0 where
@@ -51,25 +50,25 @@ pub record PassedAppend (l : server.Limits) (i n : ℕ) (es : List server.Entry)
   pub row : in_a_row i es ≡ true
   pub fields : good_entries l es ≡ true
 
-abbrev pub PassedMessage : server.Limits → List ℕ → Message → Type 0
-PassedMessage l bs (AskVote t i u) = (t ≤ last_of_all) × (i ≤ l.room) × (u ≤ last_of_all)
-PassedMessage l bs (Vote t ok) = t ≤ last_of_all
-PassedMessage l bs (Append t i u c es) =
-    (t ≤ last_of_all) × (i ≤ l.room) × (u ≤ last_of_all) × (c ≤ l.room) × PassedAppend l i es.count (entries_of bs es)
-PassedMessage l bs (Appended t i ok) = (t ≤ last_of_all) × (i ≤ l.room)
+abbrev pub PassedMessage : server.Limits → Message → Type 0
+PassedMessage l (AskVote t i u) = (t ≤ last_of_all) × (i ≤ l.room) × (u ≤ last_of_all)
+PassedMessage l (Vote t ok) = t ≤ last_of_all
+PassedMessage l (Append t i u c es) =
+    (t ≤ last_of_all) × (i ≤ l.room) × (u ≤ last_of_all) × (c ≤ l.room) × PassedAppend l i es.count (entries_of es)
+PassedMessage l (Appended t i ok) = (t ≤ last_of_all) × (i ≤ l.room)
 
-abbrev pub Passed : server.Limits → List ℕ → Event → Type 0
-Passed l bs Timeout = Unit {0}
-Passed l bs (Request c k x) = (c < l.clients) × Brief x
-Passed l bs (Comes h m) = (h < l.servers) × (h ≢ l.me) × PassedMessage l bs m
-Passed l bs Restart = l.events_can 3 ≡ true
-Passed l bs (Garbled n) = ⊥
+abbrev pub Passed : server.Limits → Event → Type 0
+Passed l Timeout = Unit {0}
+Passed l (Request c k x) = (c < l.clients) × (short (command_of x) ≡ true)
+Passed l (Comes h m) = (h < l.servers) × (h ≢ l.me) × PassedMessage l m
+Passed l Restart = l.events_can 3 ≡ true
+Passed l (Garbled n) = ⊥
 
-abbrev pub Handed : server.Limits → List ℕ → Event → Result Event Refusal → Type 0
-Handed l bs e (Ok v) = (v ≡ e) × Passed l bs e
-Handed l bs e (Err x) = refusal_place x ≡ place (means bs e) (refusal_number x)
+abbrev pub Handed : server.Limits → Event → Result Event Refusal → Type 0
+Handed l e (Ok v) = (v ≡ e) × Passed l e
+Handed l e (Err x) = refusal_place x ≡ place (means e) (refusal_number x)
 
 -- THE CHECKS' PROMISE: exactly the refusal that needs no state, at its place, or the event itself, which passed
-pub record Checked (l : server.Limits) (bs : List ℕ) (e : Event) (r : Result Event Refusal) : Type 0 where
-  pub number : outcome r ≡ by_fields l (means bs e)
-  pub handed : Handed l bs e r
+pub record Checked (l : server.Limits) (e : Event) (r : Result Event Refusal) : Type 0 where
+  pub number : outcome r ≡ by_fields l (means e)
+  pub handed : Handed l e r

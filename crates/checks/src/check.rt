@@ -1,9 +1,8 @@
 // THE CHECKS of an event, in the order of the refusals: what no state is needed for.
-ghost use Rattle.std.specs.Prelude.{◌≡◌, true, not, ◌&&◌, [], ◌==◌, nat_le, nat_lt};
+ghost use Rattle.std.specs.Prelude.{◌≡◌, true, not, ◌&&◌, ◌==◌, nat_le, nat_lt};
+ghost use Rattle.std.specs.Bool.{then_some};
 ghost use Rattle.servers.specs.Opened.{limits_of};
 ghost use Rattle.servers.specs.Server.{last_of_all};
-ghost use Rattle.wire_read.specs.Means.{EventIn, MessageIn};
-ghost use Rattle.checks.specs.Fields.{brief, if_good};
 ghost use Rattle.checks.specs.Outcome.{Checked, decided, ordered};
 ghost use Rattle.checks.specs.Refusals.{can_do};
 ghost use Rattle.checks.specs.Steps.{message_checked};
@@ -15,8 +14,8 @@ use crate::refusal::Refusal;
 use servers::limits::Limits;
 use wire_read::parts::{Command, Event, Message};
 
-fn check_ask(l: Limits, term: u64, index: u64, last_term: u64) -> Result<Message, Refusal>
-    ensures { result ≡ message_checked l [] (Message.AskVote term index last_term) }
+fn check_ask(l: Limits, term: u64, index: u64, last_term: u64) -> Result<Message<'static>, Refusal>
+    ensures { result ≡ message_checked l (Message.AskVote term index last_term) }
 {
     let Some(term) = term_there(term) else {
         return Err(Refusal::OutOfRange);
@@ -30,7 +29,7 @@ fn check_ask(l: Limits, term: u64, index: u64, last_term: u64) -> Result<Message
     Ok(Message::AskVote(term, index, last_term))
 }
 
-fn check_vote(term: u64, granted: bool) -> Result<Message, Refusal>
+fn check_vote(term: u64, granted: bool) -> Result<Message<'static>, Refusal>
     ensures { result ≡ ordered (nat_le term last_of_all) true (Message.Vote term granted) }
 {
     let Some(term) = term_there(term) else {
@@ -39,8 +38,8 @@ fn check_vote(term: u64, granted: bool) -> Result<Message, Refusal>
     Ok(Message::Vote(term, granted))
 }
 
-fn check_appended(l: Limits, term: u64, index: u64, ok: bool) -> Result<Message, Refusal>
-    ensures { result ≡ message_checked l [] (Message.Appended term index ok) }
+fn check_appended(l: Limits, term: u64, index: u64, ok: bool) -> Result<Message<'static>, Refusal>
+    ensures { result ≡ message_checked l (Message.Appended term index ok) }
 {
     let Some(term) = term_there(term) else {
         return Err(Refusal::OutOfRange);
@@ -51,22 +50,26 @@ fn check_appended(l: Limits, term: u64, index: u64, ok: bool) -> Result<Message,
     Ok(Message::Appended(term, index, ok))
 }
 
-fn check_message(l: Limits, b: &[u8], message: Message) -> Result<Message, Refusal>
-    requires { MessageIn b.now message }
-    ensures { result ≡ message_checked l b.now message }
+fn check_message(l: Limits, message: Message<'_>) -> Result<Message<'_>, Refusal>
+    ensures { result ≡ message_checked l message.entry }
 {
     match message {
         Message::AskVote(term, index, last_term) => check_ask(l, term, index, last_term),
         Message::Vote(term, granted) => check_vote(term, granted),
         Message::Append(term, before, before_term, commit, entries) => {
-            check_append(l, b, term, before, before_term, commit, entries)
+            check_append(l, term, before, before_term, commit, entries)
         }
         Message::Appended(term, index, ok) => check_appended(l, term, index, ok),
     }
 }
 
-fn check_request(l: Limits, client: u64, id: u64, command: Command) -> Result<Event, Refusal>
-    ensures { result ≡ ordered (nat_lt client l.clients && brief command) true (Event.Request client id command) }
+fn check_request(
+    l: Limits,
+    client: u64,
+    id: u64,
+    command: Command<'_>,
+) -> Result<Event<'_>, Refusal>
+    ensures { result ≡ decided (limits_of can_do l) (Event.Request client id command.entry) }
 {
     let Some(client) = client_there(l, client) else {
         return Err(Refusal::OutOfRange);
@@ -78,24 +81,23 @@ fn check_request(l: Limits, client: u64, id: u64, command: Command) -> Result<Ev
 }
 
 fn check_sender(l: Limits, from: u8) -> Option<u8>
-    ensures { result ≡ if_good (nat_lt from l.servers && not (from == l.me)) from }
+    ensures { result ≡ then_some (nat_lt from l.servers && not (from == l.me)) from }
 {
     let from = server_there(l, from)?;
     another(l, from)
 }
 
-fn check_comes(l: Limits, b: &[u8], from: u8, message: Message) -> Result<Event, Refusal>
-    requires { MessageIn b.now message }
-    ensures { result ≡ decided (limits_of can_do l) b.now (Event.Comes from message) }
+fn check_comes(l: Limits, from: u8, message: Message<'_>) -> Result<Event<'_>, Refusal>
+    ensures { result ≡ decided (limits_of can_do l) (Event.Comes from message.entry) }
 {
     let Some(from) = check_sender(l, from) else {
         return Err(Refusal::OutOfRange);
     };
-    let message = check_message(l, b, message)?;
+    let message = check_message(l, message)?;
     Ok(Event::Comes(from, message))
 }
 
-fn check_restart() -> Result<Event, Refusal>
+fn check_restart() -> Result<Event<'static>, Refusal>
     ensures { result ≡ ordered (can_do 3) true Event.Restart }
 {
     if !can_restart() {
@@ -105,14 +107,13 @@ fn check_restart() -> Result<Event, Refusal>
 }
 
 // The event, if nothing but the state could refuse it, or the first refusal.
-pub fn check(l: Limits, b: &[u8], event: Event) -> Result<Event, Refusal>
-    requires { EventIn b.now event }
-    ensures { Checked (limits_of can_do l) b.now event result }
+pub fn check(l: Limits, event: Event<'_>) -> Result<Event<'_>, Refusal>
+    ensures { Checked (limits_of can_do l) event.entry result }
 {
     match event {
         Event::Timeout => Ok(Event::Timeout),
         Event::Request(client, id, command) => check_request(l, client, id, command),
-        Event::Comes(from, message) => check_comes(l, b, from, message),
+        Event::Comes(from, message) => check_comes(l, from, message),
         Event::Restart => check_restart(),
         Event::Garbled(place) => Err(Refusal::NoEvent(place as u64)),
     }

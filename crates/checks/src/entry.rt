@@ -1,65 +1,33 @@
 // The checks of commands and entries, each by its fields.
-ghost use Rattle.std.specs.Prelude.{◌≡◌, ◌&&◌, nat_le};
-ghost use Rattle.checks.specs.Fields.{if_good, brief, brief_perhaps, sound};
+ghost use Rattle.std.specs.Prelude.{◌≡◌};
+ghost use Rattle.std.specs.Bool.{then_some};
+ghost use Rattle.servers.specs.Opened.{limits_of};
+ghost use Rattle.servers.specs.Server.{short};
+ghost use Rattle.wire_read.specs.Means.{command_of, entry_of};
+ghost use Rattle.checks.specs.Refusals.{can_do, good_entry};
 
-use crate::fields::{brief_name, brief_text, client_there, server_there, term_there};
+use crate::fields::{brief, client_there, server_there, term_there};
 use servers::limits::Limits;
-use wire_read::parts::{Command, Entry, Text};
+use wire_read::parts::{Command, Entry};
 
-// A text that may be none.
-fn brief_perhaps(text: Option<Text>) -> Option<Option<Text>>
-    ensures { result ≡ if_good (brief_perhaps text) text }
+// A command's name, and its texts: one that it lacks is as brief as an empty one.
+#[tactic(auto, unfolding(servers::specs::Server::all_short))]
+pub fn brief_command(command: Command<'_>) -> Option<Command<'_>>
+    ensures { result ≡ then_some (short (command_of command.entry)) command.entry }
 {
-    let Some(given) = text else {
-        return Some(None);
+    let (name, expected, text): (&[u8], &[u8], &[u8]) = match command {
+        Command::Get(name) | Command::Remove(name) => (name, &[], &[]),
+        Command::Put(name, text) | Command::DropIf(name, text) => (name, &[], text),
+        Command::Swap(name, expected, text) => (name, expected.unwrap_or(&[]), text),
     };
-    let given = brief_text(given)?;
-    Some(Some(given))
+    brief(name, Limits::LONGEST_NAME)?;
+    brief(expected, Limits::LONGEST_TEXT)?;
+    brief(text, Limits::LONGEST_TEXT)?;
+    Some(command)
 }
 
-fn brief_pair(name: Text, text: Text) -> Option<(Text, Text)>
-    ensures { result ≡ if_good (nat_le name.len 64 && nat_le text.len 256) (name, text) }
-{
-    let name = brief_name(name)?;
-    let text = brief_text(text)?;
-    Some((name, text))
-}
-
-fn brief_swap(name: Text, expected: Option<Text>, text: Text) -> Option<Command>
-    ensures { result ≡ if_good (brief (Command.Swap name expected text)) (Command.Swap name expected text) }
-{
-    let name = brief_name(name)?;
-    let expected = brief_perhaps(expected)?;
-    let text = brief_text(text)?;
-    Some(Command::Swap(name, expected, text))
-}
-
-pub fn brief_command(command: Command) -> Option<Command>
-    ensures { result ≡ if_good (brief command) command }
-{
-    match command {
-        Command::Get(name) => {
-            let name = brief_name(name)?;
-            Some(Command::Get(name))
-        }
-        Command::Put(name, text) => {
-            let (name, text) = brief_pair(name, text)?;
-            Some(Command::Put(name, text))
-        }
-        Command::Remove(name) => {
-            let name = brief_name(name)?;
-            Some(Command::Remove(name))
-        }
-        Command::Swap(name, expected, text) => brief_swap(name, expected, text),
-        Command::DropIf(name, text) => {
-            let (name, text) = brief_pair(name, text)?;
-            Some(Command::DropIf(name, text))
-        }
-    }
-}
-
-pub fn sound_entry(l: Limits, entry: Entry) -> Option<Entry>
-    ensures { result ≡ if_good (sound l entry) entry }
+pub fn sound_entry(l: Limits, entry: Entry<'_>) -> Option<Entry<'_>>
+    ensures { result ≡ then_some (good_entry (limits_of can_do l) (entry_of entry.entry)) entry.entry }
 {
     let client = client_there(l, entry.client)?;
     let at = server_there(l, entry.at)?;

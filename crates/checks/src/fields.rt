@@ -1,11 +1,10 @@
 // Each field's check hands on its value, or none.
-ghost use Rattle.std.specs.Prelude.{◌≡◌, ◌+◌, not, ◌&&◌, ◌==◌, nat_le, nat_lt};
-ghost use Rattle.servers.specs.Server.{last_of_all};
-ghost use Rattle.checks.specs.Fields.{if_good};
+ghost use Rattle.std.specs.Prelude.{◌≡◌, ◌+◌, not, ◌==◌, nat_le, nat_lt};
+ghost use Rattle.std.specs.Bool.{then_some};
+ghost use Rattle.servers.specs.Server.{last_of_all, short_text};
 ghost use Rattle.checks.specs.Refusals.{can_do};
 
 use servers::limits::Limits;
-use wire_read::parts::Text;
 
 // Whether these servers can start again.
 pub fn can_restart() -> bool
@@ -15,70 +14,41 @@ pub fn can_restart() -> bool
 }
 
 pub fn client_there(l: Limits, client: u64) -> Option<u64>
-    ensures { result ≡ if_good (nat_lt client l.clients) client }
+    ensures { result ≡ then_some (nat_lt client l.clients) client }
 {
-    if client < l.clients {
-        Some(client)
-    } else {
-        None
-    }
+    (client < l.clients).then_some(client)
 }
 
 pub fn server_there(l: Limits, server: u8) -> Option<u8>
-    ensures { result ≡ if_good (nat_lt server l.servers) server }
+    ensures { result ≡ then_some (nat_lt server l.servers) server }
 {
-    if u64::from(server) < l.servers {
-        Some(server)
-    } else {
-        None
-    }
+    (u64::from(server) < l.servers).then_some(server)
 }
 
 // No message comes from the server itself.
 pub fn another(l: Limits, server: u8) -> Option<u8>
-    ensures { result ≡ if_good (not (server == l.me)) server }
+    ensures { result ≡ then_some (not (server == l.me)) server }
 {
-    if u64::from(server) != l.me {
-        Some(server)
-    } else {
-        None
-    }
+    (u64::from(server) != l.me).then_some(server)
 }
 
 pub fn term_there(term: u64) -> Option<u64>
-    ensures { result ≡ if_good (nat_le term last_of_all) term }
+    ensures { result ≡ then_some (nat_le term last_of_all) term }
 {
-    if term <= Limits::LAST_TERM {
-        Some(term)
-    } else {
-        None
-    }
+    (term <= Limits::LAST_TERM).then_some(term)
 }
 
 pub fn index_there(l: Limits, index: u64) -> Option<u64>
-    ensures { result ≡ if_good (nat_le index l.room) index }
+    ensures { result ≡ then_some (nat_le index l.room) index }
 {
-    if index <= l.room { Some(index) } else { None }
+    (index <= l.room).then_some(index)
 }
 
-pub fn brief_name(name: Text) -> Option<Text>
-    ensures { result ≡ if_good (nat_le name.len 64) name }
+// A text no longer than the longest.
+pub fn brief(text: &[u8], longest: usize) -> Option<&[u8]>
+    ensures { result ≡ then_some (short_text longest text.now) text.entry }
 {
-    if name.len <= Limits::LONGEST_NAME {
-        Some(name)
-    } else {
-        None
-    }
-}
-
-pub fn brief_text(text: Text) -> Option<Text>
-    ensures { result ≡ if_good (nat_le text.len 256) text }
-{
-    if text.len <= Limits::LONGEST_TEXT {
-        Some(text)
-    } else {
-        None
-    }
+    (text.len() <= longest).then_some(text)
 }
 
 // Whether an entry stands at its place: so many after the index before, with no sum that could wrap.

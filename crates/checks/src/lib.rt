@@ -11,8 +11,6 @@ pub mod fields;
 pub mod refusal;
 
 // What needs no state is refused first, and then what the state refuses.
-pub fn refusals_in_order() -> u8
+pub fn refusals_in_order()
     ensures { RefusalsInOrder }
-{
-    0
-}
+{}

@@ -13,7 +13,7 @@ const LIMITS: Limits = Limits {
 
 // The refusal's number and place, 0 and 0 where the event is handed on.
 fn outcome(l: Limits, b: &[u8]) -> (u8, u64) {
-    match check_event(l, b, read_event(b)) {
+    match check_event(l, read_event(b)) {
         Ok(_) => (0, 0),
         Err(refusal) => (refusal.number(), refusal.place()),
     }

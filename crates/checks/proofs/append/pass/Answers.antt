@@ -1,39 +1,36 @@
-use Rattle.std.proofs.Common.{◌&&◌, sym, refl, ◌∙◌, arith}
+use Rattle.std.proofs.Common.{◌&&◌, length, sym, refl, ap, ◌∙◌, arith}
 use Rattle.servers.specs.Opened.{limits_of}
 use Rattle.servers.specs.Server.{in_a_row}
-use Rattle.wire_read.specs.Means.{entries_of}
+use Rattle.wire_read.specs.Means.{entries_of, entry_of}
 use Rattle.checks.specs.Refusals.{can_do}
-use Rattle.checks.proofs.Entries.{turn_passed, turn_refused, pass_none, entries_none}
+use Rattle.checks.proofs.Entries.{entries_long, none_good, pass_none, some_good, turn_passed, turn_refused}
 use Rattle.checks.proofs.append.pass.Goals as goal
 
-pub loop-rest-init : goal.loop-rest-init
-loop-rest-init c = (c.requires, refl)
+pub loop-entry-init : goal.loop-entry-init
+loop-entry-init c = rw c.into_iter-entry-iterator.ensures.into_iter_gives (sym (entries_long c.args.entries), refl)
 
-pub loop-rest-preserved : goal.loop-rest-preserved
-loop-rest-preserved c =
-    let n = c.next_entry.ensures in
-    let next = c.next_entry.result in (
-      n.rest,
-      turn_passed can_do c.args.l c.args.b.now c.args.before c.loop-rest.row c.stands-row.result c.loop-rest.rest
-          next.1 next.0 c.in_ok-entry.entry n.entry n.rest n.value c.loop-rest-test.true n.count
-          c.in_ok-entry.ensures c.stands-row.ensures
-          ∙ c.loop-rest.invariant.1,
+pub loop-entry-preserved : goal.loop-entry-preserved
+loop-entry-preserved c =
+    let it = c.loop-entry.entry-iterator in
+    let more = c.in-Some.ensures.steps in
+    let many = c.loop-entry.invariant.0 in
+    let good = some_good _ c.in-Some.entry c.in_ok-entry.entry c.in_ok-entry.ensures in
+    let one = ap length more in (
+      omega arith,
+      turn_passed (limits_of can_do c.args.l) c.args.before c.loop-entry.left c.loop-entry.row c.stands-row.result
+          (entry_of c.in-Some.entry) (entries_of c.next.new.self) (entries_of it) more many good.0
+          (rw (← good.1) c.stands-row.ensures)
+          ∙ c.loop-entry.invariant.1,
     )
 
 pub returns-in_err-entry : goal.returns-in_err-entry
 returns-in_err-entry c =
-    let n = c.next_entry.ensures in
-    let bs = c.args.b.now in
-    let rest = c.loop-rest.rest in
+    let it = entries_of c.loop-entry.entry-iterator in
     c.from_residual.ensures
-    ∙ sym (turn_refused can_do c.args.l bs (c.loop-rest.row && in_a_row c.args.before (entries_of bs rest)) rest
-    c.next_entry.result.1 c.next_entry.result.0 n.entry n.value c.in_err-entry.ensures)
-    ∙ c.loop-rest.invariant.1
+    ∙ sym (turn_refused (limits_of can_do c.args.l) (c.loop-entry.row && in_a_row c.args.before it) (entry_of c.in-Some.entry)
+    (entries_of c.next.new.self) it c.in-Some.ensures.steps (none_good _ _ c.in_err-entry.ensures))
+    ∙ c.loop-entry.invariant.1
 
 pub returns : goal.returns
 returns c =
-    let bs = c.args.b.now in
-    let rest = c.loop-rest.rest in
-    sym (pass_none (limits_of can_do c.args.l) c.args.before c.loop-rest.row (entries_of bs rest)
-    (entries_none bs rest (omega arith)))
-    ∙ c.loop-rest.invariant.1
+    sym (pass_none (limits_of can_do c.args.l) c.args.before c.loop-entry.row _ c.in-None.ensures.steps.0) ∙ c.loop-entry.invariant.1
