@@ -24,7 +24,7 @@ use Rattle.servers.specs.Server.{
 }
 use Rattle.servers.specs.Promise.{eight, fine, all_fine, fine_message, readable}
 use Rattle.texts.specs.Commands.{GoodCommand}
-use Rattle.wire_read.specs.Means.{entries_of, EntriesIn}
+use Rattle.wire_read.specs.Means.{entries_of}
 use Rattle.wire_read.specs.declared.parts.Entries.{Entries}
 use Rattle.memory.specs.Layout.{servers_in, room_in}
 use Rattle.memory.proofs.Good.{good_command, good_entries}
@@ -59,13 +59,13 @@ request_given l s c k x o p leads =
     by true false e q = refl
     by true true e q = absurd (omega arith)
 
-pub append_given : (m bs : List ℕ) (h t i u c : ℕ) (es : Entries) → EntriesIn bs es
-    → turned (limits_of m) (state_of m) (comes h (append t i u (entries_of bs es) c)) ≡ 0
-    → readable (comes h (append t i u (entries_of bs es) c)) ≡ true
-    → (h < servers_in m) × (t ≤ last_of_all) × (c ≤ room_in m) × CanTake m bs i es
-append_given m bs h t i u c entries within o p =
+pub append_given : (m : List ℕ) (h t i u c : ℕ) (es : Entries)
+    → turned (limits_of m) (state_of m) (comes h (append t i u (entries_of es) c)) ≡ 0
+    → readable (comes h (append t i u (entries_of es) c)) ≡ true
+    → (h < servers_in m) × (t ≤ last_of_all) × (c ≤ room_in m) × CanTake m i es
+append_given m h t i u c entries o p =
     let l : Limits = limits_of m in
-    let es : List Entry = entries_of bs entries in
+    let es : List Entry = entries_of entries in
     let free = not_turned l (state_of m) (comes h (append t i u es c)) o in
     let good = and_parts (ltb h l.servers && not (eqb h l.me)) (good_message l (append t i u es c)) free.0 in
     let from = and_parts (ltb h l.servers) (not (eqb h l.me)) good.0 in
@@ -82,12 +82,11 @@ append_given m bs h t i u c entries within o p =
     let fit : Bool = leb (i + length es) l.room in
     let row = and_parts (in_a_row i es) fit (in_row (in_a_row i es && fit) free.1) in
     let room = leb-true (i + length es) l.room row.1 in
-    let count = count_is bs entries within in (
+    let count = count_is entries in (
       ltb-true h l.servers from.0,
       leb-true t last_of_all numbers.0,
       leb-true c l.room backs.1,
       record {
-        there = within;
         room = omega arith;
         row = row.0;
         good = good_entries l es texts.0 texts.1 backs.0 all.0;

@@ -5,7 +5,7 @@ use Rattle.std.proofs.lemmas.List.{length-append, nil_from_length}
 use Rattle.servers.specs.Store.{Command}
 use Rattle.servers.specs.Server.{Entry, State, last_index, up_to, in_a_row}
 use Rattle.texts.specs.Words.{All}
-use Rattle.wire_read.specs.Means.{entries_of, EntriesIn}
+use Rattle.wire_read.specs.Means.{entries_of}
 use Rattle.wire_read.specs.declared.parts.Entries.{Entries}
 use Rattle.wire_read.proofs.Passing.{entries_length}
 use Rattle.raft_log.specs.Rows.{log_region}
@@ -20,11 +20,11 @@ use Rattle.state.proofs.PutBack.{log_held, log_written}
 use Rattle.entries.specs.Steps.{next_entry, pushed, joined, replaced}
 
 -- as many entries as they say
-pub count_is : (bs : List ℕ) (es : Entries) → EntriesIn bs es → length (entries_of bs es) ≡ es.count
-count_is bs es h = entries_length es.count (drop es.at bs) h.1
+pub count_is : (es : Entries) → length (entries_of es) ≡ es.count
+count_is es = entries_length es.count es.bytes.now es.there
 
-pub none_there : (bs : List ℕ) (es : Entries) → EntriesIn bs es → es.count ≡ 0 → entries_of bs es ≡ []
-none_there bs es h e = nil_from_length (entries_of bs es) (count_is bs es h ∙ e)
+pub none_there : (es : Entries) → es.count ≡ 0 → entries_of es ≡ []
+none_there es e = nil_from_length (entries_of es) (count_is es ∙ e)
 
 -- the rows as they are lent
 pub lent : (m : List ℕ) (at size : ℕ) → Held m → at ≡ log_at m → size ≡ 80 * room_in m

@@ -5,7 +5,7 @@ use Rattle.servers.specs.Store.{pick, Command}
 use Rattle.servers.specs.Server.{Entry, Letter, appended, State, last_index, last_term, in_a_row, entry_at, up_to, term_is, at_least, at_most, with_log, after_append}
 use Rattle.raft_log.specs.Numbers.{entry_by}
 use Rattle.raft_log.specs.declared.row.Numbers.{Numbers}
-use Rattle.wire_read.specs.Means.{entries_of, EntriesIn}
+use Rattle.wire_read.specs.Means.{entries_of}
 use Rattle.wire_read.specs.declared.parts.Entries.{Entries}
 use Rattle.texts.specs.Words.{All}
 use Rattle.memory.specs.Layout.{room_in}
@@ -21,12 +21,11 @@ next_entry s n x = entry_by n (suc (last_index s.log)) x
 abbrev pub pushed : State → Numbers → Command → State
 pushed s n x = with_log (next_entry s n x ∷ s.log) s.commit s
 
--- entries in bytes that the log of a memory can take after an index: in a row, within the room, each of them good
-pub record CanTake (m bs : List ℕ) (i : ℕ) (es : Entries) : Type 0 where
-  pub there : EntriesIn bs es
+-- entries that the log of a memory can take after an index: in a row, within the room, each of them good
+pub record CanTake (m : List ℕ) (i : ℕ) (es : Entries) : Type 0 where
   pub room : i + es.count ≤ room_in m
-  pub row : in_a_row i (entries_of bs es) ≡ true
-  pub good : All (EntryFits (limits_of m)) (entries_of bs es)
+  pub row : in_a_row i (entries_of es) ≡ true
+  pub good : All (EntryFits (limits_of m)) (entries_of es)
 
 -- the last of them, as the code holds it
 abbrev pub last_in : List Entry → Last

@@ -2,7 +2,7 @@
 ghost use Rattle.std.specs.Prelude.{◌<◌, length};
 ghost use Rattle.servers.specs.Server.{with_request};
 ghost use Rattle.texts.specs.Commands.{GoodCommand};
-ghost use Rattle.wire_read.specs.Means.{command_of, CommandIn};
+ghost use Rattle.wire_read.specs.Means.{command_of};
 ghost use Rattle.memory.specs.Layout.{clients_in, room_in};
 ghost use Rattle.state.specs.Held.{Held, Becomes, limits_of, state_of};
 
@@ -13,14 +13,13 @@ use state::{head, peers};
 use wire_read::parts::Command;
 
 // Its own match index is the new entry's.
-pub fn request(mem: &mut [u64], b: &[u8], client: u64, id: u64, command: Command)
+pub fn request(mem: &mut [u64], client: u64, id: u64, command: Command<'_>)
     requires held { Held mem.old }
     requires room { length (state_of mem.old).log < room_in mem.old }
     requires client { client < clients_in mem.old }
-    requires within { CommandIn b.now command }
-    requires good { GoodCommand (command_of b.now command) }
+    requires good { GoodCommand (command_of command) }
     ensures { Becomes mem.old mem.new
-        (with_request (limits_of mem.old) client id (command_of b.now command) (state_of mem.old)) }
+        (with_request (limits_of mem.old) client id (command_of command.entry) (state_of mem.old)) }
 {
     let me = limits(mem).me;
     let last = head::last_index(mem);
@@ -30,7 +29,7 @@ pub fn request(mem: &mut [u64], b: &[u8], client: u64, id: u64, command: Command
         client,
         number: id,
     };
-    push_entry(mem, numbers, b, command);
+    push_entry(mem, numbers, command);
     peers::set_match(mem, me as usize, last + 1);
     head::set_send(mem, true);
 }

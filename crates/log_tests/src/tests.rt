@@ -10,7 +10,7 @@ use raft_log::row::{LogRow, Numbers, ROW};
 use raft_log::size::entries_size;
 use raft_log::write::write_entries;
 use wire_read::message::read_entries;
-use wire_read::parts::{Command, Text};
+use wire_read::parts::Command;
 use wire_write::put::{write_byte, write_number, write_text};
 
 // An entry that puts a text under the name "n", as its bytes.
@@ -34,13 +34,13 @@ fn replaced(region: &mut [u64], len: usize, index: usize, b: &[u8], count: usize
     requires room { (80 * len ≤ length region.old) × (80 * (index + count) ≤ length region.old) }
     ensures { result ≤ 2000 }
 {
-    let Ok((entries, _)) = read_entries(b, 0, count as u64) else {
+    let Ok((entries, _)) = read_entries(b, count as u64) else {
         return len;
     };
     if entries.count != count as u64 {
         return len;
     }
-    replace(region, len, index, b, entries);
+    replace(region, len, index, entries);
     index + count
 }
 
@@ -193,9 +193,9 @@ fn terms_are_told_apart(rt: HostRuntime) {
 fn longest_command(rt: HostRuntime) {
     let mut region = [0u64; 160];
     let bytes = [255u8; 576];
-    let name = Text { at: 0, len: 64 };
-    let expected = Text { at: 64, len: 256 };
-    let text = Text { at: 320, len: 256 };
+    let name = &bytes[0..64];
+    let expected = &bytes[64..320];
+    let text = &bytes[320..576];
     let numbers = Numbers {
         term: 4,
         server: 2,
@@ -206,7 +206,6 @@ fn longest_command(rt: HostRuntime) {
         &mut region,
         0,
         numbers,
-        &bytes,
         Command::Swap(name, Some(expected), text),
     );
     assert_eq!(rt; region[4], 3, "a swap");
@@ -221,13 +220,7 @@ fn longest_command(rt: HostRuntime) {
     assert_eq!(rt; region[47], 256, "its text's length");
     assert_eq!(rt; region[79], u64::MAX, "the last word of the row");
     assert!(rt; zero(&region[80..160]), "the next row is untouched");
-    push(
-        &mut region,
-        1,
-        numbers,
-        &bytes,
-        Command::Remove(Text { at: 0, len: 0 }),
-    );
+    push(&mut region, 1, numbers, Command::Remove(&bytes[0..0]));
     assert_eq!(rt; region[84], 2, "a removal");
     assert!(rt;
         zero(&region[85..160]),
@@ -248,13 +241,7 @@ fn pushed(region: &mut [u64], len: usize, term: u64, b: &[u8])
         client: 1,
         number: 6,
     };
-    push(
-        region,
-        len,
-        numbers,
-        b,
-        Command::Put(Text { at: 0, len: 16 }, Text { at: 16, len: 64 }),
-    );
+    push(region, len, numbers, Command::Put(&b[0..16], &b[16..80]));
 }
 
 // The entries above an index as bytes, or none where they have no room.

@@ -1,9 +1,10 @@
 -- Words written one part after the other: a command's, a row's.
-use Rattle.std.proofs.Common.{◌≡◌, ℕ, suc, ◌+◌, ◌-◌, ◌≤◌, List, [], ◌∷◌, ◌++◌, length, take, drop, set, sym, refl, ap, ◌∙◌, arith}
+use Rattle.std.proofs.Common.{◌≡◌, Option, None, Some, Bor, ℕ, suc, ◌+◌, ◌-◌, ◌≤◌, List, [], ◌∷◌, ◌++◌, length, take, drop, set, sym, refl, ap, ◌∙◌, arith}
 use borrow.Rule.Slice.PartMut.{put_mid}
 use Rattle.std.proofs.lemmas.List.{append_assoc, append-nil, drop_all, take_all, length-take-le, length-drop, length-append}
 use Rattle.std.proofs.lemmas.Slice.{take-put_mid}
-use Rattle.texts.specs.Words.{text_words}
+use Rattle.texts.specs.Means as texts
+use Rattle.wire_read.specs.Means.{perhaps_of}
 
 -- a part that was lent has the length that was asked for
 pub length_part : (a k : ℕ) (xs : List ℕ) → a + k ≤ length xs → length (take k (drop a xs)) ≡ k
@@ -40,11 +41,13 @@ three_parts x a b c n₁ n₂ n₃ (y ∷ xs) t p v l e f g i j k =
     let q₃ : take n₃ s₃ ≡ (((x ∷ []) ++ t) ++ p) ++ v = put_next n₂ c n₃ s₂ v (((x ∷ []) ++ t) ++ p) q₂ g k (omega arith) in
     sym (take_all n₃ s₃ (omega arith)) ∙ (q₃ ∙ ap (λ (z : List ℕ). x ∷ z) (append_assoc t p v))
 
--- what a text left in a part of so many words
-pub text_written : (n : ℕ) (row part t u : List ℕ) → row ≡ text_words (length part - 1) t → length part ≡ suc n → t ≡ u
-    → row ≡ text_words n u
-text_written n row part t u e l q =
-    let z : length part - 1 ≡ n = omega arith in e ∙ rw (z, q) refl
+-- what a text, or a text or none, left in a part of so many words
+pub part_written : (f : ℕ → List ℕ) (n : ℕ) (row part : List ℕ) → row ≡ f (length part - 1) → length part ≡ suc n → row ≡ f n
+part_written f n row part e l = let z : length part - 1 ≡ n = omega arith in e ∙ ap f z
+
+pub perhaps_same : (t : Option (Bor (List ℕ))) → texts.perhaps_of t ≡ perhaps_of t
+perhaps_same None = refl
+perhaps_same (Some t) = refl
 
 -- a row: its four numbers were written, then its command
 pub row_written : (xs ys zs : List ℕ) (t a c i : ℕ) → length xs ≡ 80 → ys ≡ zs

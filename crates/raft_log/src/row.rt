@@ -1,6 +1,6 @@
 // One row of 80 words: the numbers of its entry, then its command. The entry's index is the row's place and is not written.
 ghost use Rattle.std.specs.Prelude.{◌≡◌, ℕ, ◌+◌, ◌-◌, ◌*◌, ◌^◌, ◌<◌, ◌≤◌, ◌∷◌, ◌++◌, length, drop};
-ghost use Rattle.wire_read.specs.Means.{command_of, CommandIn};
+ghost use Rattle.wire_read.specs.Means.{command_of};
 ghost use Rattle.raft_log.specs.Rows.{row_words};
 ghost use Rattle.raft_log.specs.Places.{row_place};
 ghost use Rattle.raft_log.specs.Numbers.{numbers_in, entry_by};
@@ -57,12 +57,11 @@ pub fn place(index: usize) -> usize
     ROW * (index - 1)
 }
 
-// An entry into its row, the command from the bytes that it was read from. Whatever its index is, the row is the same.
-pub fn pack_row(row: &mut [u64], numbers: Numbers, b: &[u8], command: Command)
-    requires size { length row.old ≡ 80 }
-    requires within { CommandIn b.now command }
-    ensures { (i : ℕ) → row.new ≡ row_words (entry_by numbers i (command_of b.now command)) }
+// An entry into its row. Whatever its index is, the row is the same.
+pub fn pack_row(row: &mut [u64], numbers: Numbers, command: Command<'_>)
+    requires { length row.old ≡ 80 }
+    ensures { (i : ℕ) → row.new ≡ row_words (entry_by numbers i (command_of command.entry)) }
 {
     numbers.write(row);
-    pack_command(&mut row[4..80], b, command);
+    pack_command(&mut row[4..80], command);
 }

@@ -4,7 +4,7 @@ ghost use Rattle.servers.specs.Server.{comes, turned};
 ghost use Rattle.servers.specs.Promise.{readable};
 ghost use Rattle.wire.specs.Read.{read_event};
 ghost use Rattle.wire.specs.Sizes.{answer_size};
-ghost use Rattle.wire_read.specs.Means.{means, message_of, EventIn, MessageIn};
+ghost use Rattle.wire_read.specs.Means.{means, message_of};
 ghost use Rattle.memory.specs.Layout.{servers_in};
 ghost use Rattle.checks.specs.Outcome.{Checked, PassedMessage};
 ghost use Rattle.state.specs.Held.{Held, limits_of, state_of};
@@ -21,51 +21,39 @@ use wire_read::parts::{Event, Message};
 use wire_write::answer::Answer;
 
 // A message that passed its checks.
-fn take_message(mem: &mut [u64], b: &[u8], out: &mut [u8], from: u8, message: Message) -> Answer
+fn take_message(mem: &mut [u64], out: &mut [u8], from: u8, message: Message<'_>) -> Answer
     requires held { Held mem.old }
     requires here { from < servers_in mem.old }
-    requires within { MessageIn b.now message }
-    requires passed { PassedMessage (limits_of mem.old) b.now message }
-    requires readable { readable (comes from (message_of b.now message)) ≡ true }
-    requires taken { turned (limits_of mem.old) (state_of mem.old) (comes from (message_of b.now message)) ≡ 0 }
-    requires room { RoomFor mem.old (comes from (message_of b.now message)) (length out.old) }
+    requires passed { PassedMessage (limits_of mem.old) message }
+    requires readable { readable (comes from (message_of message)) ≡ true }
+    requires taken { turned (limits_of mem.old) (state_of mem.old) (comes from (message_of message)) ≡ 0 }
+    requires room { RoomFor mem.old (comes from (message_of message)) (length out.old) }
     ensures { Answered mem.old out.old mem.new out.new
-        (comes from (message_of b.now message)) result }
+        (comes from (message_of message.entry)) result }
 {
     match message {
         Message::AskVote(term, last, of) => on_ask(mem, out, from, term, last, of),
         Message::Vote(term, granted) => on_vote(mem, out, from, term, granted),
         Message::Append(term, before, before_term, commit, entries) => {
-            on_append(
-                mem,
-                b,
-                out,
-                from,
-                term,
-                before,
-                before_term,
-                commit,
-                entries,
-            )
+            on_append(mem, out, from, term, before, before_term, commit, entries)
         }
         Message::Appended(term, index, ok) => on_appended(mem, out, from, term, index, ok),
     }
 }
 
 // An event that passed its checks: only the state can refuse it.
-fn take(mem: &mut [u64], b: &[u8], out: &mut [u8], event: Event) -> Answer
+fn take(mem: &mut [u64], out: &mut [u8], event: Event<'_>) -> Answer
     requires held { Held mem.old }
-    requires within { EventIn b.now event }
-    requires checked { Checked (limits_of mem.old) b.now event (Ok event) }
-    requires readable { readable (means b.now event) ≡ true }
-    requires room { RoomFor mem.old (means b.now event) (length out.old) }
+    requires checked { Checked (limits_of mem.old) event (Ok event) }
+    requires readable { readable (means event) ≡ true }
+    requires room { RoomFor mem.old (means event) (length out.old) }
     ensures { Answered mem.old out.old mem.new out.new
-        (means b.now event) result }
+        (means event.entry) result }
 {
     match event {
         Event::Timeout => on_timeout(mem, out),
-        Event::Request(client, id, command) => on_request(mem, b, out, client, id, command),
-        Event::Comes(from, message) => take_message(mem, b, out, from, message),
+        Event::Request(client, id, command) => on_request(mem, out, client, id, command),
+        Event::Comes(from, message) => take_message(mem, out, from, message),
         Event::Restart => unreachable(),
         Event::Garbled(_) => unreachable(),
     }
@@ -81,8 +69,8 @@ fn act(mem: &mut [u64], b: &[u8], out: &mut [u8]) -> Answer
 {
     let event = read_event(b);
     let l = limits(mem);
-    match check(l, b, event) {
-        Ok(passed) => take(mem, b, out, passed),
+    match check(l, event) {
+        Ok(passed) => take(mem, out, passed),
         Err(refusal) => refuse(out, refusal),
     }
 }

@@ -4,7 +4,7 @@ ghost use Rattle.servers.specs.Server.{request, comes, append, turned, finished,
 ghost use Rattle.servers.specs.Promise.{readable};
 ghost use Rattle.wire.specs.Write.{write_answer};
 ghost use Rattle.wire_write.specs.Answers.{answer_of};
-ghost use Rattle.wire_read.specs.Means.{command_of, entries_of, CommandIn, EntriesIn};
+ghost use Rattle.wire_read.specs.Means.{command_of, entries_of};
 ghost use Rattle.memory.specs.Layout.{room_in, region_in};
 ghost use Rattle.memory.specs.Program.{region_all};
 ghost use Rattle.checks.specs.Refusals.{by_state};
@@ -52,42 +52,38 @@ fn decline(mem: &mut [u64], out: &mut [u8]) -> Answer
 // A client asks a leader.
 fn take_request(
     mem: &mut [u64],
-    b: &[u8],
     out: &mut [u8],
     client: u64,
     id: u64,
-    command: Command,
+    command: Command<'_>,
 ) -> Answer
     requires held { Held mem.old }
     requires leads { ((state_of mem.old).kind == 2) ≡ true }
-    requires within { CommandIn b.now command }
-    requires readable { readable (request client id (command_of b.now command)) ≡ true }
-    requires taken { turned (limits_of mem.old) (state_of mem.old) (request client id (command_of b.now command)) ≡ 0 }
-    requires room { RoomFor mem.old (request client id (command_of b.now command)) (length out.old) }
+    requires readable { readable (request client id (command_of command)) ≡ true }
+    requires taken { turned (limits_of mem.old) (state_of mem.old) (request client id (command_of command)) ≡ 0 }
+    requires room { RoomFor mem.old (request client id (command_of command)) (length out.old) }
     ensures { Answered mem.old out.old mem.new out.new
-        (request client id (command_of b.now command)) result }
+        (request client id (command_of command.entry)) result }
 {
-    request(mem, b, client, id, command);
+    request(mem, client, id, command);
     finish(mem, out, First::Nothing)
 }
 
 // A client asks: a full log refuses, and who doesn't lead says so.
 pub fn on_request(
     mem: &mut [u64],
-    b: &[u8],
     out: &mut [u8],
     client: u64,
     id: u64,
-    command: Command,
+    command: Command<'_>,
 ) -> Answer
     requires held { Held mem.old }
-    requires within { CommandIn b.now command }
-    requires readable { readable (request client id (command_of b.now command)) ≡ true }
-    requires passed { turned (limits_of mem.old) (state_of mem.old) (request client id (command_of b.now command))
-        ≡ by_state (limits_of mem.old) (state_of mem.old) (request client id (command_of b.now command)) }
-    requires room { RoomFor mem.old (request client id (command_of b.now command)) (length out.old) }
+    requires readable { readable (request client id (command_of command)) ≡ true }
+    requires passed { turned (limits_of mem.old) (state_of mem.old) (request client id (command_of command))
+        ≡ by_state (limits_of mem.old) (state_of mem.old) (request client id (command_of command)) }
+    requires room { RoomFor mem.old (request client id (command_of command)) (length out.old) }
     ensures { Answered mem.old out.old mem.new out.new
-        (request client id (command_of b.now command)) result }
+        (request client id (command_of command.entry)) result }
 {
     let full = is_full(mem);
     if full {
@@ -97,41 +93,30 @@ pub fn on_request(
     if !leads {
         return decline(mem, out);
     }
-    take_request(mem, b, out, client, id, command)
+    take_request(mem, out, client, id, command)
 }
 
 // AppendEntries: the reply goes to who sent it.
 pub fn on_append(
     mem: &mut [u64],
-    b: &[u8],
     out: &mut [u8],
     from: u8,
     term: u64,
     before: u64,
     before_term: u64,
     commit: u64,
-    entries: Entries,
+    entries: Entries<'_>,
 ) -> Answer
     requires held { Held mem.old }
-    requires within { EntriesIn b.now entries }
-    requires readable { readable (comes from (append term before before_term (entries_of b.now entries) commit)) ≡ true }
+    requires readable { readable (comes from (append term before before_term (entries_of entries) commit)) ≡ true }
     requires taken { turned (limits_of mem.old) (state_of mem.old)
-        (comes from (append term before before_term (entries_of b.now entries) commit)) ≡ 0 }
-    requires room { RoomFor mem.old (comes from (append term before before_term (entries_of b.now entries) commit))
+        (comes from (append term before before_term (entries_of entries) commit)) ≡ 0 }
+    requires room { RoomFor mem.old (comes from (append term before before_term (entries_of entries) commit))
         (length out.old) }
     ensures { Answered mem.old out.old mem.new out.new
-        (comes from (append term before before_term (entries_of b.now entries) commit)) result }
+        (comes from (append term before before_term (entries_of entries.entry) commit)) result }
 {
-    let reply = append(
-        mem,
-        b,
-        from as u64,
-        term,
-        before,
-        before_term,
-        commit,
-        entries,
-    );
+    let reply = append(mem, from as u64, term, before, before_term, commit, entries);
     finish(
         mem,
         out,

@@ -29,7 +29,7 @@ pub returns-then-not-taken-clause-state : goal.returns-then-not-taken-clause-sta
 returns-then-not-taken-clause-state c =
     let m : List ℕ = c.args.mem.now in
     let s : State = state_of m in
-    let es : List Entry = entries_of c.args.b.now c.args.entries in
+    let es : List Entry = entries_of c.args.entries in
     let no : accepts s c.args.term c.args.before c.args.before_term ≡ false = sym c.accepts-taken.ensures ∙ c.if-not-taken.true in
     let same : appends s c.args.from c.args.term c.args.before c.args.before_term es c.args.commit ≡ s =
     appends_is s c.args.from c.args.term c.args.before c.args.before_term es c.args.commit c.requires.held.fits.1.row
@@ -40,7 +40,7 @@ pub returns : goal.returns
 returns c =
     let m : List ℕ = c.args.mem.now in
     let s : State = state_of m in
-    let es : List Entry = entries_of c.args.b.now c.args.entries in
+    let es : List Entry = entries_of c.args.entries in
     let h : ℕ = c.args.from in
     let t : ℕ = c.args.term in
     let i : ℕ = c.args.before in

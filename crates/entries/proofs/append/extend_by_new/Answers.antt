@@ -10,7 +10,7 @@ use Rattle.entries.proofs.append.extend_by_new.Goals as goal
 pub returns-then-new : goal.returns-then-new
 returns-then-new c =
     let m : List ℕ = c.args.mem.now in
-    let es : List Entry = entries_of c.args.b.now c.args.entries in
+    let es : List Entry = entries_of c.args.entries in
     said m c.extend.new.mem _ _
     (sym (pick_true _ (extended (state_of m) c.args.before es c.args.commit) (state_of m) (sym c.has_new-new.ensures ∙ c.if-new.true)))
     c.extend.ensures
@@ -18,7 +18,7 @@ returns-then-new c =
 pub returns-else-new : goal.returns-else-new
 returns-else-new c =
     let m : List ℕ = c.args.mem.now in
-    let es : List Entry = entries_of c.args.b.now c.args.entries in
+    let es : List Entry = entries_of c.args.entries in
     said m m _ _
     (sym (pick_false _ (extended (state_of m) c.args.before es c.args.commit) (state_of m) (sym c.has_new-new.ensures ∙ c.if-new.false)))
     (stays m c.requires.held)

@@ -8,6 +8,5 @@ use Rattle.entries.proofs.Logs.{count_is}
 
 pub returns : goal.returns
 returns c =
-    c.has_new.ensures (state_of c.args.mem.now) (entries_of c.args.b.now c.args.entries) (sym c.log.ensures.log)
-    (count_is c.args.b.now c.args.entries c.requires.there)
+    c.has_new.ensures (state_of c.args.mem.now) (entries_of c.args.entries) (sym c.log.ensures.log) (count_is c.args.entries)
     (sym (ap (λ (x : Last). x.index) c.requires.last)) (sym (ap (λ (x : Last). x.term) c.requires.last))

@@ -5,4 +5,4 @@ use Rattle.entries.proofs.Logs.{none_there}
 
 pub returns-then-entries-eq0 : goal.returns-then-entries-eq0
 returns-then-entries-eq0 c =
-    sym (ap last_in (none_there c.args.b.now c.args.entries c.requires c.if-entries-eq0.true))
+    sym (ap last_in (none_there c.args.entries c.if-entries-eq0.true))

@@ -26,7 +26,7 @@ returns c =
     let h : ℕ = c.limits-me.result.me in
     let t : ℕ = c.term.result in
     let i : ℕ = c.last_index-last.result + 1 in
-    let x : Command = command_of c.args.b.now c.args.command in
+    let x : Command = command_of c.args.command in
     let more : i ≡ suc (last_index s.log) = omega (arith, c.last_index-last.ensures.last) in
     let n : Numbers = record { term = t; server = h; client = c.args.client; number = c.args.id } in
     let written : State = pushed s n x in

@@ -27,8 +27,8 @@ returns c =
     let last = c.last_index-len.ensures.last in
     let low = c.last_index-len.ensures.low in
     let is = last_long m c.requires.held in
-    let count = count_is c.args.b.now c.args.entries c.requires.can.there in
-    replace_written m c.replace.new.region c.args.before (entries_of c.args.b.now c.args.entries)
+    let count = count_is c.args.entries in
+    replace_written m c.replace.new.region c.args.before (entries_of c.args.entries)
     (c.args.before + c.args.entries.count) at size c.requires.held c.log_at-at.ensures wide (omega arith) c.requires.within
     c.requires.can.room c.requires.can.row c.requires.can.good
     (c.replace.ensures (room_in m) s.log (omega arith) g.row (omega arith)

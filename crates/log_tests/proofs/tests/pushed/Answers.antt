@@ -12,8 +12,7 @@ pub push-requires : goal.push-requires
 push-requires c =
     let room = c.requires.room in
     let long = held_long c.args.len c.args.region.now c.requires.held (omega arith) in
-    let bytes = ap length c.requires.bytes ∙ length-replicate {A = ℕ} 80 97 in
-    record { low = omega arith; room = omega arith; within = (omega arith, omega arith) }
+    record { low = omega arith; room = omega arith }
 
 pub returns : goal.returns
 returns c =

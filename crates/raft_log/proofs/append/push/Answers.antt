@@ -18,5 +18,5 @@ returns c room i es long is =
     let z = length-replicate {A = ℕ} (80 * (room - length es)) 0 in
     let k = length_log_words es in
     ap (λ (z : List ℕ). put_mid at (at + 80 - at) z c.pack_row.new.row) is
-    ∙ pushed room es (entry_by c.args.numbers i (command_of c.args.b.now c.args.command)) c.pack_row.new.row
+    ∙ pushed room es (entry_by c.args.numbers i (command_of c.args.command)) c.pack_row.new.row
     at (at + 80 - at) (omega arith) (omega arith) (omega arith) (c.pack_row.ensures i)

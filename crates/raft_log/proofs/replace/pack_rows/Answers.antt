@@ -1,49 +1,31 @@
-use Rattle.std.proofs.Common.{◌≡◌, ℕ, ◌+◌, ◌-◌, ◌*◌, List, ◌∷◌, ◌++◌, drop, sym, ap, ◌∙◌, arith}
-use borrow.Rule.Slice.PartMut.{put_mid}
-use Rattle.servers.specs.Server.{Entry}
-use Rattle.wire_read.specs.Means.{entry_of, entries_of}
-use Rattle.raft_log.specs.Rows.{log_words}
-use Rattle.raft_log.proofs.replace.pack_rows.Goals as goal
+use Rattle.std.proofs.Common.{◌+◌, ◌-◌, ◌*◌, inl, inr, ◌∙◌, arith}
+use Rattle.std.specs.Iterator.Adapters.{zip_first, zip_second, rev_source}
+use Rattle.wire_read.specs.Means.{entry_of}
 use Rattle.wire_read.proofs.Passing.{entries_length}
-use Rattle.raft_log.proofs.Replaced.{rows_more, rows_start, rows_end}
+use Rattle.raft_log.proofs.replace.pack_rows.Goals as goal
+use Rattle.raft_log.proofs.Replaced.{left_all, left_next, left_none}
 
-pub loop-rest-init : goal.loop-rest-init
-loop-rest-init c = (
-  omega arith,
-  c.requires.there,
-  rows_start c.args.entries.count (entries_of c.args.b.now c.args.entries) c.args.rows.now c.requires.size,
-)
+pub loop-i-init : goal.loop-i-init
+loop-i-init c = ((tt, tt), tt, left_all (rev_source (zip_first c.into_iter-i-iterator.result)) (zip_second c.into_iter-i-iterator.result) c.args.entries c.args.rows.now (cc) (cc) c.requires.size)
 
-pub loop-rest-preserved : goal.loop-rest-preserved
-loop-rest-preserved c =
-    let bs : List ℕ = c.args.b.now in
-    let n : ℕ = c.loop-rest.rest.count in
-    let at : ℕ = c.place-at.result in
-    let new : List Entry = entries_of bs c.next_entry.result.1 in
-    let e : Entry = entry_of bs c.next_entry.result.0 in
-    let some = c.loop-rest-test.true in
-    let most = c.loop-rest.invariant.0 in
-    let size = c.requires.size in
-    let long = c.loop-rest.auto.rows in
-    let place = c.place-at.ensures in
-    let less : c.next_entry.result.1.count ≡ n - 1 = c.next_entry.ensures.count in
-    let before : log_words (e ∷ new) ++ drop (80 * n) c.loop-rest.rows ≡ log_words (entries_of bs c.args.entries) =
-    ap (λ (es : List Entry). log_words es ++ drop (80 * n) c.loop-rest.rows) (sym c.next_entry.ensures.value)
-    ∙ c.loop-rest.invariant.2 in (
-      omega arith,
-      c.next_entry.ensures.rest,
-      ap (λ (k : ℕ). log_words new ++ drop (80 * k) (put_mid at (at + 80 - at) c.loop-rest.rows c.pack_entry.new.row)) less
-          ∙ rows_more n at (at + 80 - at) new e c.loop-rest.rows c.pack_entry.new.row
-          (log_words (entries_of bs c.args.entries))
-          some (omega arith) (omega arith) (omega arith) c.pack_entry.ensures before,
+pub loop-i-preserved : goal.loop-i-preserved
+loop-i-preserved c =
+    let s = c.in-Some.ensures.steps in (
+      (tt, tt),
+      tt,
+      left_next (rev_source (zip_first c.loop-i.i-iterator)) (rev_source (zip_first c.next.new.self))
+          (zip_second c.loop-i.i-iterator) (zip_second c.next.new.self) c.args.entries (entry_of c.in-Some.entry) c.in-Some.i
+          (80 * (c.in-Some.i + 1) - 80 * c.in-Some.i) c.loop-i.rows c.pack_entry.new.row
+          (c.loop-i.auto.rows ∙ c.requires.size) s.0.0 s.0.1.1 s.0.1.2 s.1 (omega arith) c.pack_entry.ensures c.loop-i.invariant.2,
     )
 
-pub returns : goal.returns
-returns c =
-    let none : c.loop-rest.rest.count ≡ 0 = let z = c.loop-rest-test.false in omega arith in
-    let l = entries_length c.loop-rest.rest.count (drop c.loop-rest.rest.at c.args.b.now) c.loop-rest.invariant.1.1 in
-    record {
-      rows = rows_end c.loop-rest.rest.count (entries_of c.args.b.now c.loop-rest.rest) c.loop-rest.rows
-          (log_words (entries_of c.args.b.now c.args.entries)) none (omega arith) c.loop-rest.invariant.2;
-      count = entries_length c.args.entries.count (drop c.args.entries.at c.args.b.now) c.requires.there.1;
-    }
+pub returns-clause-rows : goal.returns-clause-rows
+returns-clause-rows c =
+    left_none (rev_source (zip_first c.loop-i.i-iterator)) (zip_second c.loop-i.i-iterator) c.args.entries c.loop-i.rows
+    (elim c.in-None.ensures.steps [
+      | inl k ↦ inl k.1.1.0
+      | inr k ↦ inr k.1.0
+    ]) c.loop-i.invariant.2
+
+pub returns-clause-count : goal.returns-clause-count
+returns-clause-count c = entries_length c.args.entries.count c.args.entries.bytes.now c.args.entries.there

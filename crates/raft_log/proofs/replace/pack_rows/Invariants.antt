@@ -1,14 +1,8 @@
-use Rattle.std.proofs.Common.{◌≡◌, ◌*◌, ◌≤◌, ◌++◌, drop}
-use Rattle.wire_read.specs.Means.{EntriesIn, entries_of}
-use Rattle.raft_log.specs.Rows.{log_words}
+use Rattle.std.specs.Iterator.Adapters.{zip_first, zip_second, rev_source}
+use Rattle.raft_log.proofs.Replaced.{Left}
 use Rattle.raft_log.proofs.replace.pack_rows.Given as goal
 
--- the rows of the entries that are left, and those that are written, are the whole
-abbrev pub invariant-loop-rest : goal.invariant-loop-rest
-invariant-loop-rest l =
-    (l.rest.count ≤ l.initial.rest.count)
-    × EntriesIn l.b l.rest
-    × (log_words (entries_of l.b l.rest) ++ drop (80 * l.rest.count) l.rows ≡ log_words (entries_of l.b l.initial.rest))
-
-abbrev pub decreases-loop-rest : goal.decreases-loop-rest
-decreases-loop-rest l = l.rest.count
+abbrev pub invariant-loop-i : goal.invariant-loop-i
+invariant-loop-i l =
+    (goal.iterator-loop-i).can_next l.i-iterator × (goal.iterator-loop-i).is_finite l.i-iterator
+    × Left (rev_source (zip_first l.i-iterator)) (zip_second l.i-iterator) l.fn.entries l.rows

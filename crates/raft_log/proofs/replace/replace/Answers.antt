@@ -8,7 +8,7 @@ use Rattle.raft_log.proofs.Regions.{replacing, written, cleared, none_left}
 
 pub returns-then-end-len : goal.returns-then-end-len
 returns-then-end-len c room es long row fits is =
-    let new : List Entry = entries_of c.args.b.now c.args.entries in
+    let new : List Entry = entries_of c.args.entries in
     let index : ℕ = c.args.index in
     let end : ℕ = index + c.args.entries.count in
     let at : ℕ = c.place.result in
@@ -30,7 +30,7 @@ returns-then-end-len c room es long row fits is =
 
 pub returns-else-end-len : goal.returns-else-end-len
 returns-else-end-len c room es long row fits is =
-    let new : List Entry = entries_of c.args.b.now c.args.entries in
+    let new : List Entry = entries_of c.args.entries in
     let index : ℕ = c.args.index in
     let at : ℕ = c.place.result in
     let width : ℕ = c.place-2.result - at in

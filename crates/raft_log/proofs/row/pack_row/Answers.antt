@@ -9,6 +9,6 @@ pub returns : goal.returns
 unfolding row_words
 returns c i =
     ap (λ (z : List ℕ). put_mid 4 76 z c.pack_command.new.words) c.write.ensures
-    ∙ row_written c.args.row.now c.pack_command.new.words (command_words (command_of c.args.b.now c.args.command))
+    ∙ row_written c.args.row.now c.pack_command.new.words (command_words (command_of c.args.command))
     c.args.numbers.term c.args.numbers.server c.args.numbers.client c.args.numbers.number
-    c.requires.size c.pack_command.ensures
+    c.requires c.pack_command.ensures

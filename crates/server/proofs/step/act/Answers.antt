@@ -10,27 +10,24 @@ use Rattle.server.proofs.step.act.Goals as goal
 pub take-requires : goal.take-requires
 take-requires c =
     let m : List ℕ = c.args.mem.now in
-    let bs : List ℕ = c.args.b.now in
-    let k : Checked (limits_of m) bs c.read_event-event.result (Ok c.in-Ok.passed) =
+    let k : Checked (limits_of m) c.read_event-event.result (Ok c.in-Ok.passed) =
     checked_by m c.limits-l.ensures c.in-Ok.is c.check.ensures in
-    let r = ready m k c.read_event-event.ensures.within c.read_event-event.ensures.value c.requires.readable c.requires.room in
-    record { held = c.requires.held; within = r.within; checked = r.checked; readable = r.reads; room = r.room }
+    let r = ready m k c.read_event-event.ensures.value c.requires.readable c.requires.room in
+    record { held = c.requires.held; checked = r.checked; readable = r.reads; room = r.room }
 
 pub returns-in-Ok : goal.returns-in-Ok
 returns-in-Ok c =
     let m : List ℕ = c.args.mem.now in
-    let bs : List ℕ = c.args.b.now in
-    let k : Checked (limits_of m) bs c.read_event-event.result (Ok c.in-Ok.passed) =
+    let k : Checked (limits_of m) c.read_event-event.result (Ok c.in-Ok.passed) =
     checked_by m c.limits-l.ensures c.in-Ok.is c.check.ensures in
-    answered_as (ap (means bs) k.handed.0 ∙ c.read_event-event.ensures.value) c.take.ensures
+    answered_as (ap means k.handed.0 ∙ c.read_event-event.ensures.value) c.take.ensures
 
 pub returns-in-Err : goal.returns-in-Err
 returns-in-Err c =
     let m : List ℕ = c.args.mem.now in
-    let bs : List ℕ = c.args.b.now in
     let e = c.read_event-event.result in
     let x = c.in-Err.refusal in
-    let k : Checked (limits_of m) bs e (Err x) = checked_by m c.limits-l.ensures c.in-Err.is c.check.ensures in
+    let k : Checked (limits_of m) e (Err x) = checked_by m c.limits-l.ensures c.in-Err.is c.check.ensures in
     answered_as c.read_event-event.ensures.value
-    (turned_away m c.args.out.now c.refuse.new.out (means bs e) x c.refuse.result c.requires.held
-    (turned_refused (limits_of m) (state_of m) bs e x k) k.handed c.refuse.ensures.answer c.refuse.ensures.bytes)
+    (turned_away m c.args.out.now c.refuse.new.out (means e) x c.refuse.result c.requires.held
+    (turned_refused (limits_of m) (state_of m) e x k) k.handed c.refuse.ensures.answer c.refuse.ensures.bytes)

@@ -11,8 +11,8 @@ use Rattle.server.proofs.writes.on_append.Goals as goal
 
 pub append-reply-requires : goal.append-reply-requires
 append-reply-requires c =
-    let g = append_given c.args.mem.now c.args.b.now c.args.from c.args.term c.args.before c.args.before_term
-    c.args.commit c.args.entries c.requires.within c.requires.taken c.requires.readable in
+    let g = append_given c.args.mem.now c.args.from c.args.term c.args.before c.args.before_term
+    c.args.commit c.args.entries c.requires.taken c.requires.readable in
     record { held = c.requires.held; here = g.0; low = g.1; commit = g.2; can = g.3 }
 
 pub finish-requires : goal.finish-requires
@@ -21,7 +21,7 @@ finish-requires c =
     let m₁ : List ℕ = c.append-reply.new.mem in
     let v = c.append-reply.result in
     let x : First = Reply c.args.from v.term v.index v.ok in
-    let es = entries_of c.args.b.now c.args.entries in
+    let es = entries_of c.args.entries in
     let ev : Event = comes c.args.from (append c.args.term c.args.before c.args.before_term es c.args.commit) in
     let t : Taken (limits_of m) (state_of m) ev = record { free = c.requires.taken; goes_on = refl; told = refl } in
     record {
@@ -36,7 +36,7 @@ returns c =
     let m₁ : List ℕ = c.append-reply.new.mem in
     let v = c.append-reply.result in
     let x : First = Reply c.args.from v.term v.index v.ok in
-    let es = entries_of c.args.b.now c.args.entries in
+    let es = entries_of c.args.entries in
     let ev : Event = comes c.args.from (append c.args.term c.args.before c.args.before_term es c.args.commit) in
     let t : Taken (limits_of m) (state_of m) ev = record { free = c.requires.taken; goes_on = refl; told = refl } in
     taken m m₁ c.finish.new.mem c.args.out.now c.finish.new.out ev (first_of (limits_of m₁) (state_of m₁) x)

@@ -10,7 +10,7 @@ use Rattle.server.proofs.writes.on_request.Goals as goal
 pub returns-then-full : goal.returns-then-full
 returns-then-full c =
     let m : List ℕ = c.args.mem.now in
-    let x = command_of c.args.b.now c.args.command in
+    let x = command_of c.args.command in
     let ev : Event = request c.args.client c.args.id x in
     let e = c.requires.passed ∙ request_full (limits_of m) (state_of m) c.args.client c.args.id x
     (sym c.is_full-full.ensures ∙ c.if-full.true) in
@@ -23,7 +23,7 @@ decline-requires c = record { held = c.requires.held; room = c.requires.room.tol
 pub returns-then-not-leads : goal.returns-then-not-leads
 returns-then-not-leads c =
     let m : List ℕ = c.args.mem.now in
-    let x = command_of c.args.b.now c.args.command in
+    let x = command_of c.args.command in
     let e = c.requires.passed ∙ request_free (limits_of m) (state_of m) c.args.client c.args.id x
     (sym c.is_full-full.ensures ∙ c.if-full.false) in
     request_declined m c.args.out.now c.decline.new.mem c.decline.new.out c.args.client c.args.id x
@@ -33,13 +33,12 @@ returns-then-not-leads c =
 pub take_request-requires : goal.take_request-requires
 take_request-requires c =
     let m : List ℕ = c.args.mem.now in
-    let x = command_of c.args.b.now c.args.command in
+    let x = command_of c.args.command in
     let e = c.requires.passed ∙ request_free (limits_of m) (state_of m) c.args.client c.args.id x
     (sym c.is_full-full.ensures ∙ c.if-full.false) in
     record {
       held = c.requires.held;
       leads = sym c.is_leader-leads.ensures ∙ c.if-not-leads.false;
-      within = c.requires.within;
       readable = c.requires.readable;
       taken = e;
       room = c.requires.room;

@@ -10,15 +10,15 @@ use Rattle.server.proofs.writes.take_request.Goals as goal
 pub request-requires : goal.request-requires
 request-requires c =
     let m : List ℕ = c.args.mem.now in
-    let x = command_of c.args.b.now c.args.command in
+    let x = command_of c.args.command in
     let g = request_given (limits_of m) (state_of m) c.args.client c.args.id x c.requires.taken c.requires.readable c.requires.leads in
-    record { held = c.requires.held; room = g.1; client = g.0; within = c.requires.within; good = g.2 }
+    record { held = c.requires.held; room = g.1; client = g.0; good = g.2 }
 
 pub finish-requires : goal.finish-requires
 finish-requires c =
     let m : List ℕ = c.args.mem.now in
     let m₁ : List ℕ = c.request.new.mem in
-    let x = command_of c.args.b.now c.args.command in
+    let x = command_of c.args.command in
     let ev : Event = request c.args.client c.args.id x in
     let b = request_step m m₁ c.args.client c.args.id x c.requires.leads c.request.ensures in
     let t : Taken (limits_of m) (state_of m) ev = record { free = c.requires.taken; goes_on = refl; told = ap not c.requires.leads } in
@@ -28,7 +28,7 @@ pub returns : goal.returns
 returns c =
     let m : List ℕ = c.args.mem.now in
     let m₁ : List ℕ = c.request.new.mem in
-    let x = command_of c.args.b.now c.args.command in
+    let x = command_of c.args.command in
     let ev : Event = request c.args.client c.args.id x in
     let b = request_step m m₁ c.args.client c.args.id x c.requires.leads c.request.ensures in
     let t : Taken (limits_of m) (state_of m) ev = record { free = c.requires.taken; goes_on = refl; told = ap not c.requires.leads } in
