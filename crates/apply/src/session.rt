@@ -9,6 +9,7 @@ ghost use Rattle.apply.specs.Means.{last_of};
 
 use state::layout::SESSION;
 use state::parts::{session_at, session_part};
+use store::reply::Reply;
 use texts::copy::copy_text;
 
 // The last number done for a client, if any was.
@@ -35,27 +36,25 @@ pub fn is_again(last: Option<u64>, number: u64) -> bool
     last == Some(number)
 }
 
-fn pack_session(row: &mut [u64], number: u64, after: &[u64], before: &[u64])
-    requires size { length row.old ≡ 68 }
-    requires after { length after.now ≡ 33 }
-    requires before { length before.now ≡ 33 }
-    ensures { row.new ≡ 1 ∷ (number ∷ (after.now ++ before.now)) }
+fn pack_session(row: &mut [u64], number: u64, reply: &Reply)
+    requires { length row.old ≡ 68 }
+    ensures { row.new ≡ 1 ∷ (number ∷ (reply.now.after ++ reply.now.before)) }
 {
     row[0] = 1;
     row[1] = number;
-    copy_text(&mut row[2..35], after);
-    copy_text(&mut row[35..68], before);
+    copy_text(&mut row[2..35], &reply.after);
+    copy_text(&mut row[35..68], &reply.before);
 }
 
 // Keeps the number of the command that was done, and its reply: what there is after it and was before.
-pub fn keep(mem: &mut [u64], client: usize, number: u64, after: &[u64], before: &[u64])
+pub fn keep(mem: &mut [u64], client: usize, number: u64, reply: &Reply)
     requires held { Held mem.old }
     requires there { client < clients_in mem.old }
-    requires after { OfPerhaps 32 after.now }
-    requires before { OfPerhaps 32 before.now }
+    requires after { OfPerhaps 32 reply.now.after }
+    requires before { OfPerhaps 32 reply.now.before }
     ensures { Becomes mem.old mem.new
-        (with_session client (answered number (reply_in after.now before.now)) (state_of mem.old)) }
+        (with_session client (answered number (reply_in reply.now.after reply.now.before)) (state_of mem.old)) }
 {
     let at = session_at(mem, client);
-    pack_session(&mut mem[at..at + SESSION], number, after, before);
+    pack_session(&mut mem[at..at + SESSION], number, reply);
 }

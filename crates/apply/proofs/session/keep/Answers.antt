@@ -2,7 +2,7 @@ use Rattle.std.proofs.Common.{◌≡◌, ℕ, ◌+◌, ◌-◌, List, length, ta
 use Rattle.raft_log.proofs.Written.{length_part}
 use Rattle.state.proofs.Sessions.{session_written}
 use Rattle.apply.specs.Applied.{answered, reply_in}
-use Rattle.apply.proofs.Sessions.{kept_words, perhaps_long}
+use Rattle.apply.proofs.Sessions.{kept_words}
 use Rattle.apply.proofs.session.keep.Goals as goal
 
 pub pack_session-requires : goal.pack_session-requires
@@ -10,16 +10,12 @@ pack_session-requires c =
     let m : List ℕ = c.args.mem.now in
     let at : ℕ = c.session_at-at.result in
     let k : at + 68 - at ≡ 68 = omega arith in
-    record {
-      size = ap (λ (n : ℕ). length (take n (drop at m))) k ∙ length_part at 68 m c.session_at-at.ensures.end;
-      after = perhaps_long c.args.after.now c.requires.after;
-      before = perhaps_long c.args.before.now c.requires.before;
-    }
+    ap (λ (n : ℕ). length (take n (drop at m))) k ∙ length_part at 68 m c.session_at-at.ensures.end
 
 pub returns : goal.returns
 returns c =
-    let a : List ℕ = c.args.after.now in
-    let b : List ℕ = c.args.before.now in
+    let a : List ℕ = c.args.reply.now.after in
+    let b : List ℕ = c.args.reply.now.before in
     let at : ℕ = c.session_at-at.result in
     session_written c.args.mem.now c.pack_session.new.row c.args.client (answered c.args.number (reply_in a b))
     at (at + 68 - at) c.requires.held c.requires.there c.session_at-at.ensures.value (omega arith)

@@ -7,6 +7,5 @@ pub returns : goal.returns
 returns c =
     let row : List ℕ = set (set c.args.row.now 0 1) 1 c.args.number in
     ap (λ (z : List ℕ). put_mid 35 33 (put_mid 2 33 row z) c.copy_text-2.new.to) c.copy_text.ensures
-    ∙ (ap (λ (z : List ℕ). put_mid 35 33 (put_mid 2 33 row c.args.after.now) z) c.copy_text-2.ensures
-    ∙ packed c.args.number c.args.row.now c.args.after.now c.args.before.now c.requires.size c.requires.after
-    c.requires.before)
+    ∙ (ap (λ (z : List ℕ). put_mid 35 33 (put_mid 2 33 row c.args.reply.now.after) z) c.copy_text-2.ensures
+    ∙ packed c.args.number c.args.row.now c.args.reply.now.after c.args.reply.now.before c.requires (omega arith) (omega arith))
