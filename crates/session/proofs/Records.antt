@@ -58,26 +58,24 @@ length_recorded at k n xs ys zs r h e q w =
     ap length w.bytes ∙ length_put at (write_number n) (put_mid a k xs ys) (omega arith) ∙ omega arith
 
 -- one event, from what the step and the two writes did
-pub ran_one : {m bs cs xs part m' ys zs : List ℕ} {at k len r : ℕ} {ans : Answer} → cs ≡ bs → Stepped m cs part m' ys ans
-    → at + 8 ≤ length xs → k ≡ length xs - (at + 8) → length ys ≡ k → len ≡ answer_length ans
+pub ran_one : {m bs xs part m' ys zs : List ℕ} {at k len r : ℕ} {ans : Answer} → Stepped m bs part m' ys ans → at + 8 ≤ length xs → k ≡ length xs - (at + 8) → length ys ≡ k → len ≡ answer_length ans
     → Writes at (write_number len) (put_mid (at + 8) k xs ys) zs r → Reached (limits_of m') m' → limits_of m' ≡ limits_of m
     → RanOne m bs xs at m' zs (at + 8 + len)
-ran_one {m = m} {bs = bs} {cs = cs} {xs = xs} {part = part} {m' = m'} {ys = ys} {zs = zs} {at = at} {k = k} {len = len} {r = r} {ans = ans}
-    e s h f g q w x l =
-    let s₁ : Stepped m bs part m' ys ans = subst (λ (z : List ℕ). Stepped m z part m' ys ans) e s in
+ran_one {m = m} {bs = bs} {xs = xs} {part = part} {m' = m'} {ys = ys} {zs = zs} {at = at} {k = k} {len = len} {r = r} {ans = ans}
+    s h f g q w x l =
     let a : server.Answer = says serves m (read_event bs) in
     let b : List ℕ = write_answer a in
-    let n : len ≡ length b = q ∙ (ap answer_length s₁.answer_is ∙ length_answer a) in
-    let fit = s₁.bytes.within in
+    let n : len ≡ length b = q ∙ (ap answer_length s.answer_is ∙ length_answer a) in
+    let fit = s.bytes.within in
     let long = length_recorded at k len xs ys zs r h f g w in
     let c = length-append (write_number (length b)) b in
     let d = length_number (length b) in
     record {
-      memory = s₁.memory;
+      memory = s.memory;
       next = omega arith;
       room = omega arith;
       long = long;
-      front = ap (λ (i : ℕ). take (at + 8 + i) zs) n ∙ recorded at k len xs ys b zs r h s₁.bytes.front n w;
+      front = ap (λ (i : ℕ). take (at + 8 + i) zs) n ∙ recorded at k len xs ys b zs r h s.bytes.front n w;
       reached = x;
       limits = l;
     }

@@ -1,11 +1,12 @@
 -- A session goes on by one record.
 use Rattle.std.proofs.Common.{◌≡◌, ℕ, ◌+◌, ◌-◌, ◌<◌, ◌≤◌, true, ltb, List, [], ◌∷◌, ◌++◌, length, take, drop, Ok, Result, sym, refl, ap, ◌∙◌, subst, arith}
-use Rattle.std.proofs.lemmas.List.{length-drop}
+use Rattle.std.proofs.lemmas.List.{length-drop, drop-drop}
 use Rattle.std.proofs.lemmas.Bool.{false≢true, ltb-false}
 use Rattle.servers.proofs.Tests.{pick_by}
 use Rattle.wire.specs.Read.{Read, got, stuck, and_then, number_of, read_number, read_bytes, read_text, read_event}
-use Rattle.wire_read.specs.Means.{is_got, text_of, ReadsText}
-use Rattle.wire_read.specs.declared.parts.Text.{Text}
+use Rattle.wire_read.specs.Got.{is_got}
+use Rattle.wire_read.specs.Means.{Reads, text_of}
+use Rattle.wire_read.specs.declared.read.Stuck.{Stuck}
 use Rattle.memory.specs.Program.{serves, called}
 use Rattle.state.specs.Held.{limits_of}
 use Rattle.server.specs.Reached.{Reached}
@@ -45,45 +46,61 @@ ran_more m rs xs m₁ ys t b m₂ zs next w r e h o =
       limits = o.limits ∙ r.limits;
     }
 
--- a text takes bytes
-unfoldable rest : Read (List ℕ) → List ℕ
-rest (got a r) = r
-rest (stuck k) = []
+-- a record takes bytes from the front, and what it leaves is the end of what was there
+abbrev Leaves : List ℕ → Read (List ℕ) → Type 0
+Leaves bs (got t r) = (length r < length bs) × (drop (length bs - length r) bs ≡ r)
+Leaves bs (stuck k) = Unit {0}
 
-unfoldable Less : List ℕ → Read (List ℕ) → Type 0
-Less bs x = is_got x ≡ true → length (rest x) + 8 ≤ length bs
+bytes_leave : (bs : List ℕ) (n : ℕ) → 8 ≤ length bs → Leaves bs (read_bytes n (drop 8 bs))
+unfolding read_bytes
+bytes_leave bs n h =
+    pick_by (Leaves bs) (ltb (length (drop 8 bs)) n) (stuck 0) (got (take n (drop 8 bs)) (drop n (drop 8 bs))) (λ q. tt)
+    (λ q.
+    let few = ltb-false (length (drop 8 bs)) n q in
+    let l = length-drop 8 bs in
+    let k = length-drop n (drop 8 bs) in
+    let z : length bs - length (drop n (drop 8 bs)) ≡ 8 + n = omega arith in
+    (omega arith, rw z (sym (drop-drop n 8 bs))))
 
-bytes_less : (bs d : List ℕ) (n : ℕ) → length d + 8 ≤ length bs → Less bs (read_bytes n d)
-unfolding read_bytes Less rest
-bytes_less bs d n h =
-    pick_by (Less bs) (ltb (length d) n) (stuck 0) (got (take n d) (drop n d)) (λ q g. absurd (false≢true g))
-    (λ q g. let l = length-drop n d in omega arith)
+text_leaves : (bs : List ℕ) → Leaves bs (read_text bs)
+unfolding read_text read_number
+text_leaves bs =
+    pick_by (λ (y : Read ℕ). Leaves bs (and_then y read_bytes)) (ltb (length bs) 8) (stuck 0) (got (number_of (take 8 bs)) (drop 8 bs))
+    (λ q. tt) (λ q. bytes_leave bs (number_of (take 8 bs)) (ltb-false (length bs) 8 q))
 
-text_less : (bs : List ℕ) → Less bs (read_text bs)
-unfolding read_text read_number Less rest
-text_less bs =
-    pick_by (λ (y : Read ℕ). Less bs (and_then y read_bytes)) (ltb (length bs) 8) (stuck 0) (got (number_of (take 8 bs)) (drop 8 bs))
-    (λ q g. absurd (false≢true g))
-    (λ q. bytes_less bs (drop 8 bs) (number_of (take 8 bs)) (let l = length-drop 8 bs in let h = ltb-false (length bs) 8 q in omega arith))
+pub leaves : (bs t r : List ℕ) → read_text bs ≡ got t r → Leaves bs (got t r)
+leaves bs t r e = subst (λ (x : Read (List ℕ)). Leaves bs x) e (text_leaves bs)
 
-pub shorter : (bs t r : List ℕ) → read_text bs ≡ got t r → length r < length bs
-unfolding Less rest
-shorter bs t r e =
-    let h = text_less bs (ap is_got e) in
-    let l = ap (λ (x : Read (List ℕ)). length (rest x)) e in
-    omega arith
+-- what is left of records, and how many bytes of them were read
+pub record Left (rs rest : List ℕ) : Type 0 where
+  pub few : length rest ≤ length rs
+  pub is : drop (length rs - length rest) rs ≡ rest
 
--- what the reader of a record says, where there is one
-pub read_one : (rs : List ℕ) (at : ℕ) (r : Result (Text × ℕ) ℕ) (t : Text) (next : ℕ) → r ≡ Ok (t, next) → ReadsText rs at read_text r
-    → (read_text (drop at rs) ≡ got (text_of rs t) (drop next rs)) × (next ≤ length rs)
-read_one rs at r t next e x =
-    let y = subst (λ (z : Result (Text × ℕ) ℕ). ReadsText rs at read_text z) e x in
-    (sym y.value, y.within.1)
+pub left_all : (rs : List ℕ) → Left rs rs
+left_all rs = let z : length rs - length rs ≡ 0 = omega arith in record { few = omega arith; is = rw z refl }
 
-pub less_left : (rs : List ℕ) (at next : ℕ) (b : List ℕ) → read_text (drop at rs) ≡ got b (drop next rs) → next ≤ length rs
-    → length rs - next < length rs - at
-less_left rs at next b e h =
-    let s = shorter (drop at rs) b (drop next rs) e in
-    let p = length-drop at rs in
-    let q = length-drop next rs in
-    omega arith
+pub left_less : (rs bs r : List ℕ) → Left rs bs → length r < length bs → drop (length bs - length r) bs ≡ r → Left rs r
+left_less rs bs r h l e =
+    let few = h.few in
+    let z : length rs - length r ≡ (length bs - length r) + (length rs - length bs) = omega arith in
+    record { few = omega arith; is = rw (z, ← drop-drop (length bs - length r) (length rs - length bs) rs, h.is) e }
+
+-- a session as it stands: what it took so far, and what is left to take
+pub record Going (m rs xs m' ys rest : List ℕ) (w : ℕ) : Type 0 where
+  pub ran : Ran m rs xs m' ys (record { read = length rs - length rest; written = w })
+  pub left : Left rs rest
+
+pub going_none : (m rs xs : List ℕ) → Reached (limits_of m) m → Going m rs xs m xs rs 0
+going_none m rs xs x =
+    let z : length rs - length rs ≡ 0 = omega arith in record { ran = rw z (ran_none m rs xs x); left = left_all rs }
+
+pub going_more : (m rs xs m₁ ys rest : List ℕ) (w : ℕ) (b m₂ zs r : List ℕ) (w₂ : ℕ) → Going m rs xs m₁ ys rest w
+    → read_text rest ≡ got b r → RanOne m₁ b ys w m₂ zs w₂ → Going m rs xs m₂ zs r w₂
+going_more m rs xs m₁ ys rest w b m₂ zs r w₂ g e o =
+    let l = leaves rest b r e in
+    let h = left_less rs rest r g.left l.0 l.1 in
+    record {
+      ran = ran_more m rs xs m₁ ys (record { read = length rs - length rest; written = w }) b m₂ zs (length rs - length r) w₂ g.ran
+          (rw (g.left.is, h.is) e) (omega arith) o;
+      left = h;
+    }

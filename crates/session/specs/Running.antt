@@ -2,7 +2,7 @@
 -- definitions.
 use Rattle.std.specs.Prelude.{◌≡◌, ℕ, ◌+◌, ◌<◌, ◌≤◌, true, List, [], ◌∷◌, ◌++◌, length, take, drop}
 use Rattle.wire.specs.Read.{got, read_event, read_text}
-use Rattle.wire_read.specs.Means.{is_got}
+use Rattle.wire_read.specs.Got.{is_got}
 use Rattle.wire.specs.Write.{write_answer, write_record}
 use Rattle.memory.specs.Program.{serves, called, says}
 use Rattle.state.specs.Held.{limits_of}

@@ -1,8 +1,7 @@
 // Events from a buffer of records, each its length and its bytes; their answers go to another as records. What `serve` calls.
 ghost use Rattle.std.specs.Prelude.{◌≡◌, ◌+◌, ◌<◌, ◌≤◌, length};
-ghost use Rattle.wire.specs.Read.{read_text, got};
+ghost use Rattle.wire.specs.Read.{read_text};
 ghost use Rattle.wire.specs.Sizes.{answer_size};
-ghost use Rattle.wire_read.specs.Means.{TextIn, text_of};
 ghost use Rattle.state.specs.Held.{limits_of};
 ghost use Rattle.server.specs.Reached.{Reached};
 ghost use Rattle.session.specs.Running.{Ended, Ran, RanOne};
@@ -10,7 +9,6 @@ ghost use Rattle.session.specs.Running.{Ended, Ran, RanOne};
 use server::open::answer_bytes;
 use server::step::step;
 use state::limits::limits;
-use wire_read::parts::Text;
 use wire_read::read::read_text;
 use wire_write::put::write_number;
 
@@ -22,17 +20,13 @@ pub struct Taken {
 }
 
 // One event: its answer is written past the room for its length. Returns the place after it.
-fn run_one(mem: &mut [u64], records: &[u8], event: Text, out: &mut [u8], at: usize) -> usize
+fn run_one(mem: &mut [u64], event: &[u8], out: &mut [u8], at: usize) -> usize
     requires reached { Reached (limits_of mem.old) mem.old }
-    requires event { TextIn records.now event }
     requires room { at + 8 + answer_size (limits_of mem.old) ≤ length out.old }
-    ensures { RanOne mem.old (text_of records.now event) out.old at
-        mem.new out.new result }
+    ensures { RanOne mem.old event.now out.old at mem.new out.new result }
 {
     let first = at + 8;
-    let from = event.at;
-    let to = from + event.len;
-    let answer = step(mem, &records[from..to], &mut out[first..]);
+    let answer = step(mem, event, &mut out[first..]);
     let len = answer.len();
     write_number(out, at, len as u64);
     first + len
@@ -54,19 +48,17 @@ pub fn run(mem: &mut [u64], records: &[u8], out: &mut [u8]) -> Taken
     ensures ended { Ended records.now (length out.new) (8 + answer_size (limits_of mem.old)) result }
 {
     let size = longest(mem);
-    let mut done = Taken {
-        read: 0,
-        written: 0,
-    };
-    'taking: while size <= out.len() - done.written {
-        let Ok((event, next)) = read_text(records, done.read) else {
+    let mut rest = records;
+    let mut written = 0;
+    'taking: while size <= out.len() - written {
+        let Ok((event, after)) = read_text(rest) else {
             break 'taking;
         };
-        let written = run_one(mem, records, event, out, done.written);
-        done = Taken {
-            read: next,
-            written,
-        };
+        written = run_one(mem, event, out, written);
+        rest = after;
     }
-    done
+    Taken {
+        read: records.len() - rest.len(),
+        written,
+    }
 }
