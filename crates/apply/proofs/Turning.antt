@@ -1,5 +1,5 @@
 -- What an entry does to the state and the region, by what the code tests.
-use Rattle.std.proofs.Common.{◌≡◌, ℕ, Bool, true, false, not, ◌||◌, ltb, List, Option, sym, refl, ap, ◌∙◌}
+use Rattle.std.proofs.Common.{◌≡◌, ℕ, Bool, true, false, not, ◌||◌, ltb, List, Option, sym, refl, ◌∙◌}
 use Rattle.servers.specs.Store.{Command, Reply, reply}
 use Rattle.servers.specs.Server.{Entry, Cached, State, is_new, do_one}
 use Rattle.servers.proofs.Tests.{pick_true, pick_false}

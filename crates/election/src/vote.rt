@@ -8,6 +8,7 @@ ghost use Rattle.election.specs.Steps.{fresh, voted_by};
 
 use state::limits::limits;
 use state::{head, peers, votes};
+use std::cmp::Ordering;
 
 // Nothing is known of the others, and all of the own log.
 fn start_afresh(mem: &mut [u64])
@@ -53,16 +54,14 @@ pub fn vote_comes(mem: &mut [u64], h: u64, term: u64, granted: bool)
     ensures { Becomes mem.old mem.new
         (hears_vote (limits_of mem.old) (state_of mem.old) h term granted) }
 {
-    let own = head::term(mem);
-    if own < term {
-        head::take_term(mem, term);
-        return;
-    }
-    if term < own {
-        return;
-    }
-    let counts = head::is_candidate(mem);
-    if counts {
-        hear(mem, h, granted);
+    match head::term(mem).cmp(&term) {
+        Ordering::Less => head::take_term(mem, term),
+        Ordering::Equal => {
+            let counts = head::is_candidate(mem);
+            if counts {
+                hear(mem, h, granted);
+            }
+        }
+        Ordering::Greater => {}
     }
 }

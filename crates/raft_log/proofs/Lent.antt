@@ -1,8 +1,8 @@
 -- Rows that are lent one by one: each stands at its index.
-use Rattle.std.proofs.Common.{◌≡◌, ℕ, zero, suc, ◌+◌, ◌-◌, ◌*◌, ◌/◌, ◌<◌, ◌≤◌, List, [], ◌∷◌, ◌++◌, length, get_or, take, drop, sym, refl, ap, ◌∙◌, subst, arith}
+use Rattle.std.proofs.Common.{◌≡◌, ℕ, zero, suc, ◌+◌, ◌-◌, ◌*◌, ◌<◌, ◌≤◌, List, [], ◌∷◌, ◌++◌, length, get_or, take, drop, sym, refl, ap, ◌∙◌, subst, arith}
 use Rattle.std.proofs.lemmas.List.{drop-drop, drop_at, take_at, take-take, take-append-drop, drop-take, length-drop}
 use Rattle.std.specs.Simd.{first_chunks}
-use Rattle.raft_log.specs.Rows.{row_in, log_in}
+use Rattle.raft_log.specs.Rows.{log_in}
 use Rattle.raft_log.specs.Places.{row_place, row_at, words_of}
 
 -- each row has 80 words, as its type says
@@ -26,7 +26,7 @@ unfolding log_in
 log_same zero ws vs h = refl
 log_same (suc n) ws vs h =
     let d : suc n - 1 ≡ n = omega arith in
-    let row : take 80 (drop (80 * n) ws) ≡ take 80 (drop (80 * n) vs) = 
+    let row : take 80 (drop (80 * n) ws) ≡ take 80 (drop (80 * n) vs) =
     subst (λ (j : ℕ). take 80 (drop (80 * j) ws) ≡ take 80 (drop (80 * j) vs)) d (h (suc n) (omega arith) (omega arith)) in
     rw (row, log_same n ws vs (λ i some most. h i some (omega arith))) refl
 

@@ -9,5 +9,4 @@ pub fn rows_stand()
     ensures first { FirstRows }
     ensures parts { AboveAndUpTo }
     ensures due { DueInOrder }
-{
-}
+{}

@@ -1,4 +1,4 @@
-// How many bytes entries take in a message, told before they are written: a letter says its length first.
+// How many bytes entries take in a message, told before they are written. A command is known by its number, as rows have it.
 ghost use Rattle.std.specs.Prelude.{◌≡◌, ℕ, ◌+◌, ◌-◌, ◌*◌, ◌<◌, ◌≤◌, length};
 ghost use Rattle.servers.specs.Server.{above};
 ghost use Rattle.wire.specs.Write.{write_entry, write_entries};

@@ -1,4 +1,5 @@
-// Entries as the bytes of a message, straight from their rows, the last first: what a leader sends.
+// Entries as the bytes of a message, straight from their rows, the last first: what a leader sends. A command is known by its number, as
+// rows and messages have it.
 ghost use Rattle.std.specs.Prelude.{◌≡◌, ℕ, ◌+◌, ◌-◌, ◌<◌, ◌≤◌, [], ◌∷◌, ◌++◌, length, slice_index};
 ghost use Rattle.servers.specs.Server.{above};
 ghost use Rattle.texts.specs.Words.{text_in, perhaps_in};

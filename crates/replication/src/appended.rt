@@ -8,6 +8,7 @@ ghost use Rattle.replication.specs.Heard.{heard_from, has_state, lacks_state};
 
 use state::{head, peers};
 
+// What it says, by case, each with a state of its own after it.
 #[derive(Clone, Copy)]
 pub enum Heard {
     // of another term than the server's own

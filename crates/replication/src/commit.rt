@@ -30,7 +30,8 @@ fn is_of(mem: &[u64], index: usize, term: u64) -> bool
     find::term(log(mem), index) == term
 }
 
-// Goes from the end of the log down to what is settled already, and no further.
+// Goes from the end of the log down to what is settled already, and no further. Settling is a loop over entries with one over servers in
+// it, left by a label.
 pub fn settled_to(mem: &[u64]) -> u64
     requires held { Held mem.now }
     ensures { result ≡ settled_to (limits_of mem.now) (state_of mem.now) (state_of mem.now).log }

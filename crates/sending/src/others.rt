@@ -11,7 +11,7 @@ ghost use Rattle.sending.specs.Others.{message_to, letters_to_all};
 use crate::letter::{write_ask_letter, write_entries_letter};
 use state::limits::limits;
 
-// Who stands asks for votes; who leads sends entries.
+// Who stands asks for votes; who leads sends entries. As a closure, each letter's promise would be stated again over references to bytes.
 #[derive(Clone, Copy)]
 enum Sent {
     Ask,

@@ -1,5 +1,6 @@
 use Rattle.std.proofs.Common.{◌≡◌, Bool, true, false, ℕ, ◌==◌, ◌<◌, sym, ◌∙◌, arith}
 use Rattle.std.proofs.lemmas.Bool.{lt-ltb, le-ltb}
+use Rattle.std.proofs.lemmas.Grind.{common_steps}
 use Rattle.servers.specs.Server.{Limits, State, with_term, voted_on, hears_vote}
 use Rattle.servers.proofs.Tests.{pick_true, pick_false}
 use Rattle.state.specs.Held.{limits_of, state_of}
@@ -21,30 +22,38 @@ left : (l : Limits) (s : State) (h t : ℕ) (ok : Bool) → s.term ≡ t → (s.
 left l s h t ok e k =
     pick_false _ _ _ (le-ltb s.term t (omega arith)) ∙ (pick_false _ _ _ (le-ltb t s.term (omega arith)) ∙ pick_false _ _ _ k)
 
-pub returns-then-own-term : goal.returns-then-own-term
-returns-then-own-term c =
+pub returns-in-Less : goal.returns-in-Less
+returns-in-Less c =
     let m = c.args.mem.now in
-    let n : (state_of m).term < c.args.term = omega (arith, c.term-own.ensures.value, c.if-own-term.true) in
+    let value = c.term.ensures.value in
+    let order = c.in-Less.ensures in
+    let n : (state_of m).term < c.args.term = grind (arith, common_steps) in
     said m c.take_term.new.mem _ _ (sym (newer (limits_of m) (state_of m) c.args.h c.args.term c.args.granted n)) c.take_term.ensures
 
-pub returns-then-term-own : goal.returns-then-term-own
-returns-then-term-own c =
+pub returns-in-Greater : goal.returns-in-Greater
+returns-in-Greater c =
     let m = c.args.mem.now in
-    let n : c.args.term < (state_of m).term = omega (arith, c.term-own.ensures.value, c.if-term-own.true) in
+    let value = c.term.ensures.value in
+    let order = c.in-Greater.ensures in
+    let n : c.args.term < (state_of m).term = grind (arith, common_steps) in
     said m m _ _ (sym (older (limits_of m) (state_of m) c.args.h c.args.term c.args.granted n)) (stays m c.requires.held)
 
 pub returns-then-counts : goal.returns-then-counts
 returns-then-counts c =
     let m = c.args.mem.now in
-    let e : (state_of m).term ≡ c.args.term = omega (arith, c.term-own.ensures.value, c.if-own-term.false, c.if-term-own.false) in
+    let value = c.term.ensures.value in
+    let order = c.in-Equal.ensures in
+    let e : (state_of m).term ≡ c.args.term = grind (arith, common_steps) in
     said m c.hear.new.mem _ _
-    (sym (counted (limits_of m) (state_of m) c.args.h c.args.term c.args.granted e (sym c.if-counts.ensures)))
+    (sym (counted (limits_of m) (state_of m) c.args.h c.args.term c.args.granted e (sym c.is_candidate-counts.ensures ∙ c.if-counts.true)))
     c.hear.ensures
 
 pub returns-else-counts : goal.returns-else-counts
 returns-else-counts c =
     let m = c.args.mem.now in
-    let e : (state_of m).term ≡ c.args.term = omega (arith, c.term-own.ensures.value, c.if-own-term.false, c.if-term-own.false) in
+    let value = c.term.ensures.value in
+    let order = c.in-Equal.ensures in
+    let e : (state_of m).term ≡ c.args.term = grind (arith, common_steps) in
     said m m _ _
-    (sym (left (limits_of m) (state_of m) c.args.h c.args.term c.args.granted e (sym c.if-counts.ensures)))
+    (sym (left (limits_of m) (state_of m) c.args.h c.args.term c.args.granted e (sym c.is_candidate-counts.ensures ∙ c.if-counts.false)))
     (stays m c.requires.held)

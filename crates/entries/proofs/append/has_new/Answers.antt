@@ -1,5 +1,4 @@
-use Rattle.std.proofs.Common.{◌≡◌, ℕ, List, sym, ap}
-use Rattle.servers.specs.Server.{Entry}
+use Rattle.std.proofs.Common.{sym, ap}
 use Rattle.wire_read.specs.Means.{entries_of}
 use Rattle.state.specs.Held.{state_of}
 use Rattle.entries.specs.declared.append.Last.{Last}

@@ -1,4 +1,4 @@
-use Rattle.std.proofs.Common.{ℕ, List, length, Some, sym, ap, ◌∙◌, inl, inr, arith}
+use Rattle.std.proofs.Common.{ℕ, length, Some, sym, ap, ◌∙◌, inl, inr, arith}
 use Rattle.raft_log.specs.Places.{words_of}
 use Rattle.raft_log.specs.Numbers.{term_in}
 use Rattle.raft_log.proofs.find.term_at.Goals as goal

@@ -7,5 +7,5 @@ use Rattle.raft_log.proofs.size.entries_size.Given as goal
 abbrev pub invariant-loop-row : goal.invariant-loop-row
 invariant-loop-row l = record {
   exact : l.total ≡ length (above_bytes l.index (l.from + l.row-index) (words_of l.log));
-  most : l.total ≤ 635 * l.row-index
+  most : l.total ≤ 635 * l.row-index;
 }

@@ -1,4 +1,4 @@
-use Rattle.std.proofs.Common.{◌≡◌, ℕ, ◌+◌, ◌-◌, ◌≤◌, List, ◌++◌, length, sym, ap, subst, arith}
+use Rattle.std.proofs.Common.{ℕ, ◌+◌, ◌-◌, ◌≤◌, List, ◌++◌, length, sym, ap, subst, arith}
 use Rattle.servers.specs.Server.{Entry}
 use Rattle.wire.specs.Write.{write_entry}
 use Rattle.wire_write.proofs.Putting.{writes_none, writes_as, writes_then}
