@@ -1,4 +1,4 @@
-use Rattle.std.proofs.Common.{ℕ, List, set, ap, ◌∙◌}
+use Rattle.std.proofs.Common.{ℕ, List, set, ap, ◌∙◌, arith}
 use borrow.Rule.Slice.PartMut.{put_mid}
 use Rattle.apply.proofs.Sessions.{packed}
 use Rattle.apply.proofs.session.pack_session.Goals as goal
