@@ -85,14 +85,14 @@ const LETTERS: usize = 17;
 
 // The message in the letter to a server.
 fn letter(answer: &[u8], to: u8) -> Option<&[u8]> {
-    let mut at = LETTERS;
+    let mut rest = answer.get(LETTERS..)?;
     for _ in 0..answer.len() {
-        let receiver = *answer.get(at)?;
-        let (message, next) = read_text(answer, at + 1).ok()?;
-        if receiver == to {
-            return Some(&answer[message.at..message.at + message.len]);
+        let (receiver, after) = rest.split_first()?;
+        let (message, next) = read_text(after).ok()?;
+        if *receiver == to {
+            return Some(message);
         }
-        at = next;
+        rest = next;
     }
     None
 }

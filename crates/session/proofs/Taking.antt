@@ -1,12 +1,9 @@
 -- A session goes on by one record.
-use Rattle.std.proofs.Common.{◌≡◌, ℕ, ◌+◌, ◌-◌, ◌<◌, ◌≤◌, true, ltb, List, [], ◌∷◌, ◌++◌, length, take, drop, Ok, Result, sym, refl, ap, ◌∙◌, subst, arith}
+use Rattle.std.proofs.Common.{◌≡◌, ℕ, ◌+◌, ◌-◌, ◌<◌, ◌≤◌, ltb, List, [], ◌∷◌, ◌++◌, length, take, drop, sym, refl, ap, ◌∙◌, subst, arith}
 use Rattle.std.proofs.lemmas.List.{length-drop, drop-drop}
-use Rattle.std.proofs.lemmas.Bool.{false≢true, ltb-false}
+use Rattle.std.proofs.lemmas.Bool.{ltb-false}
 use Rattle.servers.proofs.Tests.{pick_by}
 use Rattle.wire.specs.Read.{Read, got, stuck, and_then, number_of, read_number, read_bytes, read_text, read_event}
-use Rattle.wire_read.specs.Got.{is_got}
-use Rattle.wire_read.specs.Means.{Reads, text_of}
-use Rattle.wire_read.specs.declared.read.Stuck.{Stuck}
 use Rattle.memory.specs.Program.{serves, called}
 use Rattle.state.specs.Held.{limits_of}
 use Rattle.server.specs.Reached.{Reached}
@@ -82,7 +79,7 @@ left_all rs = let z : length rs - length rs ≡ 0 = omega arith in record { few 
 pub left_less : (rs bs r : List ℕ) → Left rs bs → length r < length bs → drop (length bs - length r) bs ≡ r → Left rs r
 left_less rs bs r h l e =
     let few = h.few in
-    let z : length rs - length r ≡ (length bs - length r) + (length rs - length bs) = omega arith in
+    let z : length rs - length r ≡ (length rs - length bs) + (length bs - length r) = omega arith in
     record { few = omega arith; is = rw (z, ← drop-drop (length bs - length r) (length rs - length bs) rs, h.is) e }
 
 -- a session as it stands: what it took so far, and what is left to take
