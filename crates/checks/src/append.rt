@@ -14,6 +14,7 @@ use wire_read::parts::{Entries, Message};
 fn pass(l: Limits, before: u64, entries: Entries<'_>) -> Option<bool>
     ensures { result ≡ passes l before entries.entry }
 {
+    // Counted down beside the entries: a range turned round and zipped to them ends below its first, so it needs a sum that fits.
     let mut left = entries.count;
     let mut row = true;
     for entry in entries {
@@ -42,10 +43,7 @@ fn check_entries(l: Limits, before: u64, entries: Entries<'_>) -> Result<Entries
     let Some(row) = pass(l, before, entries) else {
         return Err(Refusal::OutOfRange);
     };
-    if !row {
-        return Err(Refusal::OutOfRow);
-    }
-    if !has_room(l, before, entries.count) {
+    if !row || !has_room(l, before, entries.count) {
         return Err(Refusal::OutOfRow);
     }
     Ok(entries)
