@@ -1,5 +1,5 @@
-use Rattle.std.proofs.Common.{rules, ◌≡◌, ◌∷◌, subst, arith}
-use Rattle.wire_read.specs.Means.{Reads, entry_of, entries_of}
+use Rattle.std.proofs.Common.{rules, subst, arith}
+use Rattle.wire_read.specs.Means.{Reads, entry_of}
 use Rattle.wire_read.proofs.Passing.{first_there, rest_there, entries_more, no_entries}
 use Rattle.wire_read.proofs.Reading.{reads_ok}
 use Rattle.wire_read.proofs.forward.EntriesIterator.next.Goals as goal
