@@ -14,13 +14,10 @@ use wire_read::parts::{Entries, Message};
 fn pass(l: Limits, before: u64, entries: Entries<'_>) -> Option<bool>
     ensures { result ≡ passes l before entries.entry }
 {
-    // Counted down beside the entries: a range turned round and zipped to them ends below its first, so it needs a sum that fits.
-    let mut left = entries.count;
     let mut row = true;
-    for entry in entries {
+    for (left, entry) in (1..=entries.count).rev().zip(entries) {
         let entry = sound_entry(l, entry)?;
         row &= stands(entry.index, before, left);
-        left -= 1;
     }
     Some(row)
 }
