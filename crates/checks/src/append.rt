@@ -15,6 +15,7 @@ fn pass(l: Limits, before: u64, entries: Entries<'_>) -> Option<bool>
     ensures { result ≡ passes l before entries.entry }
 {
     let mut row = true;
+    // Each with how many are left, itself among them.
     for (left, entry) in (1..=entries.count).rev().zip(entries) {
         let entry = sound_entry(l, entry)?;
         row &= stands(entry.index, before, left);
