@@ -18,24 +18,23 @@ use raft_log::row::Numbers;
 use state::limits::{limits, store_at};
 use state::parts::log_part;
 use store::commands::do_command;
+use store::reply::Reply;
 
 // A command on the store in memory. The applied index counts it already, so there is room for one item more.
-fn do_in_store(mem: &mut [u64], command: &[u64], after: &mut [u64], before: &mut [u64])
+fn do_in_store(mem: &mut [u64], command: &[u64]) -> Reply
     requires held { Held mem.old }
     requires few { length (state_of mem.old).store < (state_of mem.old).applied }
     requires command { OfCommand command.now }
-    requires after { length after.old ≡ 33 }
-    requires before { length before.old ≡ 33 }
     ensures turns { Turns mem.old mem.new
         (with_store_done (command_in command.now) (state_of mem.old))
         (region_do (command_in command.now) (region_in mem.old)) }
-    ensures after { OfPerhaps 32 after.new }
-    ensures before { OfPerhaps 32 before.new }
-    ensures reply { reply_in after.new before.new
+    ensures after { OfPerhaps 32 result.after }
+    ensures before { OfPerhaps 32 result.before }
+    ensures reply { reply_in result.after result.before
         ≡ reply (command_in command.now) (state_of mem.old).store }
 {
     let at = store_at(mem);
-    do_command(&mut mem[at..], command, after, before);
+    do_command(&mut mem[at..], command)
 }
 
 // The words of the command at an index that the log has.
@@ -63,10 +62,8 @@ fn do_new(mem: &mut [u64], index: usize, client: usize, number: u64)
 {
     let mut command = [0u64; 76];
     command.copy_from_slice(command_at(mem, index));
-    let mut after = [0u64; 33];
-    let mut before = [0u64; 33];
-    do_in_store(mem, &command, &mut after, &mut before);
-    keep(mem, client, number, &after, &before);
+    let reply = do_in_store(mem, &command);
+    keep(mem, client, number, &reply.after, &reply.before);
 }
 
 // The client that this server tells: it took the command, which is new or the client's last one again.

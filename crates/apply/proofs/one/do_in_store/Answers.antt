@@ -21,7 +21,7 @@ do_command-requires c =
     let r : List ℕ = take (length m - at) (drop at m) in
     let e = region_lent m at c.store_at-at.ensures in
     record {
-      ready = record { held = region_held m r c.requires.held e; after_wide = c.requires.after; before_wide = c.requires.before };
+      held = region_held m r c.requires.held e;
       room = region_room m r c.requires.held e c.requires.few;
       command = c.requires.command;
     }
@@ -36,12 +36,12 @@ returns c =
     let e = region_lent m at p in
     let z = long m c.requires.held in
     let d = c.do_command.ensures in
-    let read = reply_read x (state_of m).store c.do_command.new.after c.do_command.new.before c.requires.command.good
+    let read = reply_read x (state_of m).store c.do_command.result.after c.do_command.result.before c.requires.command.good
     c.requires.held.fits.3.items
     (d.after ∙ ap (λ (y : List ℕ). perhaps_words 32 (reply x (items_of y)).now) e)
     (d.before ∙ ap (λ (y : List ℕ). perhaps_words 32 (reply x (items_of y)).old) e) in
     record {
-      turns = stored m x r c.do_command.new.region c.do_command.new.after c.do_command.new.before at (length m - at)
+      turns = stored m x r c.do_command.new.region c.do_command.result.after c.do_command.result.before at (length m - at)
           c.requires.held e p (omega arith) c.requires.few c.requires.command.good d;
       after = read.0;
       before = read.1;
