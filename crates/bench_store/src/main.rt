@@ -4,66 +4,77 @@
 //   bench_store ITEMS OPERATIONS KIND     does one kind alone: none, look, put or renew (removed, and put again)
 #![tactic(auto)]
 
-ghost use Rattle.std.specs.Prelude.{◌≤◌};
+ghost use Rattle.std.specs.Prelude.{◌≡◌, ◌+◌, ◌*◌, ◌<◌, ◌≤◌, length, IfSome};
+ghost use Rattle.store.specs.Calls.{Held};
 
-use std::alloc::Global;
 use std::time::Instant;
 use std::{env, io};
 use store::start::open_region;
+use work::{Fill, Look, Put, Renew, all};
 
 mod work;
 
 const MOST: usize = 65536;
 
-// The number that a word says, and at most `most`; 0 for another word.
-fn number(word: Option<String>, most: usize) -> usize
-    ensures { result ≤ most }
+// The number that a word says, and at most `most`.
+fn number(word: Option<String>, most: usize) -> Option<usize>
+    ensures { IfSome result (λ n. n ≤ most) }
 {
-    match word {
-        Some(text) => match text.as_str().parse::<usize>() {
-            Ok(n) => n.min(most),
-            Err(_) => 0,
-        },
-        None => 0,
+    let n = word?.as_str().parse::<usize>().ok()?;
+    Some(n.min(most))
+}
+
+#[derive(Clone, Copy)]
+enum Kind {
+    Look,
+    Put,
+    Renew,
+}
+
+impl Kind {
+    fn told(self) -> &'static str {
+        match self {
+            Kind::Look => "found",
+            Kind::Put => "put",
+            Kind::Renew => "renewed",
+        }
+    }
+
+    // How many of so many operations did what they are for.
+    fn count(self, region: &mut [u64], items: u32, operations: u64) -> u64
+        requires held { Held region.old }
+        requires some { 0 < items }
+        ensures held { Held region.new }
+    {
+        match self {
+            Kind::Look => all::<Look>(region, items, operations),
+            Kind::Put => all::<Put>(region, items, operations),
+            Kind::Renew => all::<Renew>(region, items, operations),
+        }
     }
 }
 
-// What to do: look up, put, renew, and tell times.
+// Which kinds of operations to do, and whether to print times.
 #[derive(Clone, Copy)]
 struct Plan {
-    look: bool,
-    put: bool,
-    renew: bool,
+    kinds: &'static [Kind],
     times: bool,
 }
 
 fn plan_of(word: Option<String>) -> Plan {
-    let all = Plan {
-        look: true,
-        put: true,
-        renew: true,
-        times: false,
-    };
-    let none = Plan {
-        look: false,
-        put: false,
-        renew: false,
-        times: false,
-    };
-    match word {
-        Some(text) => match text.as_str() {
-            "none" => none,
-            "look" => Plan { look: true, ..none },
-            "put" => Plan { put: true, ..none },
-            "renew" => Plan {
-                renew: true,
-                ..none
-            },
-            "times" => Plan { times: true, ..all },
-            _ => all,
+    let all: &'static [Kind] = &[Kind::Look, Kind::Put, Kind::Renew];
+    let (kinds, times): (&'static [Kind], bool) = match word {
+        Some(word) => match word.as_str() {
+            "none" => (&[], false),
+            "look" => (&[Kind::Look], false),
+            "put" => (&[Kind::Put], false),
+            "renew" => (&[Kind::Renew], false),
+            "times" => (all, true),
+            _ => (all, false),
         },
-        None => all,
-    }
+        None => (all, false),
+    };
+    Plan { kinds, times }
 }
 
 fn tell(rt: &HostRuntime, what: &str, done: u64, start: Instant, times: bool) -> io::Result<()> {
@@ -81,33 +92,21 @@ fn run(
     items: usize,
     operations: u64,
     plan: Plan,
-) -> io::Result<()> {
-    if items == 0 || items > MOST {
+) -> io::Result<()>
+    requires { (items ≤ MOST) × (length region.old ≡ 2 + 43 * (items + 1)) }
+{
+    if items == 0 {
         return println!(rt; "nothing to do");
     }
-    let room = items + 1;
-    if region.len() != 2 + 43 * room {
-        return println!(rt; "no region");
-    }
-    let n = items as u64;
-    open_region(region, room);
+    let n = items as u32;
+    open_region(region, items + 1);
     let start = Instant::now(rt)?;
-    let done = work::fill(region, n);
+    let done = all::<Fill>(region, n, items as u64);
     tell(rt, "filled", done, start, plan.times)?;
-    if plan.look {
+    for kind in plan.kinds {
         let start = Instant::now(rt)?;
-        let done = work::look_all(region, n, operations);
-        tell(rt, "found", done, start, plan.times)?;
-    }
-    if plan.put {
-        let start = Instant::now(rt)?;
-        let done = work::put_all(region, n, operations);
-        tell(rt, "put", done, start, plan.times)?;
-    }
-    if plan.renew {
-        let start = Instant::now(rt)?;
-        let done = work::renew_all(region, n, operations);
-        tell(rt, "renewed", done, start, plan.times)?;
+        let done = kind.count(region, n, operations);
+        tell(rt, kind.told(), done, start, plan.times)?;
     }
     println!(rt; "words {}", region.len())
 }
@@ -115,8 +114,8 @@ fn run(
 fn main(rt: HostRuntime) -> io::Result<()> {
     let mut args = env::args(&rt)?;
     let _program = args.next();
-    let items = number(args.next(), MOST);
-    let operations = number(args.next(), 1000000000);
+    let items = number(args.next(), MOST).unwrap_or(0);
+    let operations = number(args.next(), 1000000000).unwrap_or(0);
     let plan = plan_of(args.next());
     let mut region = vec![in rt.alloc(); 0u64; 2 + 43 * (items + 1)]?;
     run(&rt, &mut region, items, operations as u64, plan)

@@ -2,103 +2,90 @@
 ghost use Rattle.std.specs.Prelude.{ℕ, ◌<◌};
 ghost use Rattle.store.specs.Calls.{Held};
 
-use store::{bytes, row};
+use store::bytes::{look_up, packed};
+use store::commands::{do_put, do_remove};
+use store::row::{self, NAME, TEXT};
 
 fn name_of(i: u64) -> [u8; 8] {
     i.wrapping_mul(11400714819323198485).to_be_bytes()
 }
 
 // The k-th operation's item.
-fn item_of(k: u64, items: u64) -> u64
+fn item_of(k: u64, items: u32) -> u64
     requires { 0 < items }
 {
-    k.wrapping_mul(7919) % items
+    k.wrapping_mul(7919) % u64::from(items)
 }
 
-fn look(region: &[u64], i: u64) -> bool
-    requires held { Held region.now }
-{
-    bytes::look_up(region, &name_of(i)).is_some()
-}
-
-fn put(region: &mut [u64], i: u64, text: u64) -> bool
+fn put_at(region: &mut [u64], i: u64, text: u64) -> bool
     requires held { Held region.old }
     ensures held { Held region.new }
 {
     if row::len(region) >= row::room(region) {
         return false;
     }
-    let mut after = [0u64; 33];
-    let mut before = [0u64; 33];
-    bytes::do_put(
+    let _reply = do_put(
         region,
-        &name_of(i),
-        &text.to_be_bytes(),
-        &mut after,
-        &mut before,
+        &packed::<NAME>(&name_of(i)),
+        &packed::<TEXT>(&text.to_be_bytes()),
     );
     true
 }
 
-fn renew(region: &mut [u64], i: u64, text: u64) -> bool
-    requires held { Held region.old }
-    ensures held { Held region.new }
-{
-    let mut after = [0u64; 33];
-    let mut before = [0u64; 33];
-    bytes::do_remove(region, &name_of(i), &mut after, &mut before);
-    put(region, i, text) && before[0] != 0
+// The k-th operation of a kind, on so many items: whether it did what it is for.
+pub trait Operation {
+    fn done(region: &mut [u64], k: u64, items: u32) -> bool
+        requires held { Held region.old }
+        requires some { 0 < items }
+        ensures { Held region.new };
 }
 
-pub fn fill(region: &mut [u64], items: u64) -> u64
-    requires held { Held region.old }
-    ensures held { Held region.new }
-{
-    let mut done = 0;
-    for i in 0..items {
-        if put(region, i, i) {
-            done += 1;
-        }
+// Each item is put for the first time.
+pub struct Fill;
+
+impl Operation for Fill {
+    fn done(region: &mut [u64], k: u64, _items: u32) -> bool {
+        put_at(region, k, k)
     }
-    done
 }
 
-pub fn look_all(region: &[u64], items: u64, operations: u64) -> u64
-    requires held { Held region.now }
-    requires some { 0 < items }
-{
-    let mut done = 0;
-    for k in 0..operations {
-        if look(region, item_of(k, items)) {
-            done += 1;
-        }
+pub struct Look;
+
+impl Operation for Look {
+    fn done(region: &mut [u64], k: u64, items: u32) -> bool {
+        look_up(region, &name_of(item_of(k, items))).is_some()
     }
-    done
 }
 
-pub fn put_all(region: &mut [u64], items: u64, operations: u64) -> u64
-    requires held { Held region.old }
-    requires some { 0 < items }
-    ensures held { Held region.new }
-{
-    let mut done = 0;
-    for k in 0..operations {
-        if put(region, item_of(k, items), k) {
-            done += 1;
-        }
+pub struct Put;
+
+impl Operation for Put {
+    fn done(region: &mut [u64], k: u64, items: u32) -> bool {
+        put_at(region, item_of(k, items), k)
     }
-    done
 }
 
-// Each is removed and put again, which shifts the index twice.
-pub fn renew_all(region: &mut [u64], items: u64, operations: u64) -> u64
+// Removed and put again, which shifts the index twice.
+pub struct Renew;
+
+impl Operation for Renew {
+    fn done(region: &mut [u64], k: u64, items: u32) -> bool {
+        let i = item_of(k, items);
+        let reply = do_remove(region, &packed::<NAME>(&name_of(i)));
+        put_at(region, i, k) && reply.before[0] != 0
+    }
+}
+
+// How many of so many operations did what they are for. Not inlined, since each kind is counted alone.
+#[inline(never)]
+pub fn all<O: Operation>(region: &mut [u64], items: u32, operations: u64) -> u64
     requires held { Held region.old }
     requires some { 0 < items }
     ensures held { Held region.new }
 {
     let mut done = 0;
     for k in 0..operations {
-        if renew(region, item_of(k, items), k) {
+        if O::done(region, k, items) {
             done += 1;
         }
     }

@@ -4,8 +4,10 @@ ghost use Rattle.texts.specs.Words.{All};
 ghost use Rattle.texts.specs.Means.{perhaps_of};
 ghost use Rattle.store.specs.Calls.{Held};
 
-use store::{bytes, row};
-use texts::compare::same;
+use store::bytes::{packed, packed_perhaps};
+use store::reply::Reply;
+use store::row::{NAME, TEXT};
+use store::{commands, row};
 use texts::pack::{write_perhaps, write_text};
 
 // Whether 33 words are this text or none.
@@ -14,11 +16,14 @@ fn is(words: &[u64; 33], text: Option<&[u8]>) -> bool
 {
     let mut row = [7u64; 33];
     write_perhaps(&mut row, text);
-    same(words, &row)
+    *words == row
 }
 
-fn is_none(words: &[u64; 33]) -> bool {
-    same(words, &[0u64; 33])
+// Whether a reply tells of these texts or none.
+fn tells(reply: &Reply, after: Option<&[u8]>, before: Option<&[u8]>) -> bool
+    requires { (All (λ t. length t ≤ 256) (perhaps_of after)) × (All (λ t. length t ≤ 256) (perhaps_of before)) }
+{
+    is(&reply.after, after) && is(&reply.before, before)
 }
 
 pub fn has_room(region: &[u64]) -> bool
@@ -31,10 +36,8 @@ pub fn get(region: &[u64], name: &[u8], text: Option<&[u8]>) -> bool
     requires held { Held region.now }
     requires short { (length name.now ≤ 64) × (All (λ t. length t ≤ 256) (perhaps_of text)) }
 {
-    let mut after = [7u64; 33];
-    let mut before = [7u64; 33];
-    bytes::do_get(region, name, &mut after, &mut before);
-    is(&after, text) && is(&before, text)
+    let reply = commands::do_get(region, &packed::<NAME>(name));
+    tells(&reply, text, text)
 }
 
 // False where there is no room.
@@ -46,10 +49,8 @@ pub fn put(region: &mut [u64], name: &[u8], text: &[u8], old: Option<&[u8]>) -> 
     if row::len(region) >= row::room(region) {
         return false;
     }
-    let mut after = [7u64; 33];
-    let mut before = [7u64; 33];
-    bytes::do_put(region, name, text, &mut after, &mut before);
-    is(&after, Some(text)) && is(&before, old)
+    let reply = commands::do_put(region, &packed::<NAME>(name), &packed::<TEXT>(text));
+    tells(&reply, Some(text), old)
 }
 
 pub fn remove(region: &mut [u64], name: &[u8], old: Option<&[u8]>) -> bool
@@ -57,10 +58,8 @@ pub fn remove(region: &mut [u64], name: &[u8], old: Option<&[u8]>) -> bool
     requires short { (length name.now ≤ 64) × (All (λ t. length t ≤ 256) (perhaps_of old)) }
     ensures held { Held region.new }
 {
-    let mut after = [7u64; 33];
-    let mut before = [7u64; 33];
-    bytes::do_remove(region, name, &mut after, &mut before);
-    is_none(&after) && is(&before, old)
+    let reply = commands::do_remove(region, &packed::<NAME>(name));
+    tells(&reply, None, old)
 }
 
 // What there is after it, and was before; false where there is no room.
@@ -80,10 +79,13 @@ pub fn swap(
     if row::len(region) >= row::room(region) {
         return false;
     }
-    let mut after = [7u64; 33];
-    let mut before = [7u64; 33];
-    bytes::do_swap(region, name, expected, text, &mut after, &mut before);
-    is(&after, new) && is(&before, old)
+    let reply = commands::do_swap(
+        region,
+        &packed::<NAME>(name),
+        &packed_perhaps(expected),
+        &packed::<TEXT>(text),
+    );
+    tells(&reply, new, old)
 }
 
 pub fn drop_if(
@@ -98,10 +100,8 @@ pub fn drop_if(
     requires told { (All (λ t. length t ≤ 256) (perhaps_of new)) × (All (λ t. length t ≤ 256) (perhaps_of old)) }
     ensures held { Held region.new }
 {
-    let mut after = [7u64; 33];
-    let mut before = [7u64; 33];
-    bytes::do_drop_if(region, name, text, &mut after, &mut before);
-    is(&after, new) && is(&before, old)
+    let reply = commands::do_drop_if(region, &packed::<NAME>(name), &packed::<TEXT>(text));
+    tells(&reply, new, old)
 }
 
 // Whether the p-th name is this one.
@@ -113,7 +113,16 @@ pub fn nth(region: &[u64], p: usize, name: &[u8]) -> bool
     }
     let mut words = [7u64; 9];
     write_text(&mut words, name);
-    same(row::name_at(region, p), &words)
+    row::name_at(region, p) == &words[..]
+}
+
+// A name that is new, with itself as its text.
+pub fn put_new(region: &mut [u64], name: &[u8]) -> bool
+    requires held { Held region.old }
+    requires short { length name.now ≤ 64 }
+    ensures held { Held region.new }
+{
+    put(region, name, name, None)
 }
 
 // Puts the names 0 to 7, each with itself as its text, in an order that the step, below 8, gives.
@@ -123,8 +132,7 @@ pub fn fill(region: &mut [u64], step: u8) -> bool
 {
     let mut good = true;
     for i in 0..8u8 {
-        let name = [i ^ step];
-        good = put_new(region, &name) && good;
+        good &= put_new(region, &[i ^ step]);
     }
     good
 }
@@ -137,22 +145,7 @@ pub fn empty(region: &mut [u64], step: u8) -> bool
     let mut good = true;
     for i in 0..8u8 {
         let name = [i ^ step];
-        good = remove(region, &name, Some(&name)) && good;
+        good &= remove(region, &name, Some(&name));
     }
     good
-}
-
-// A name that is new, with itself as its text.
-pub fn put_new(region: &mut [u64], name: &[u8]) -> bool
-    requires held { Held region.old }
-    requires short { length name.now ≤ 64 }
-    ensures held { Held region.new }
-{
-    if row::len(region) >= row::room(region) {
-        return false;
-    }
-    let mut after = [7u64; 33];
-    let mut before = [7u64; 33];
-    bytes::do_put(region, name, name, &mut after, &mut before);
-    is(&after, Some(name)) && is_none(&before)
 }

@@ -64,19 +64,6 @@ pub zeros_are : (n : ℕ) → 0 < n → replicate n 0 ≡ 0 ∷ cells (n - 1) []
 zeros_are zero h = absurd (omega arith)
 zeros_are (suc n) h = let m : suc n - 1 ≡ n = omega arith in rw (m, cells_nil n) refl
 
--- a part from the front, and then the rest
-pub two_long : {X : Type 0} (m : ℕ) (xs us : List X) → length us ≡ m → m ≤ length xs → length (us ++ post_of 0 m xs) ≡ length xs
-two_long m xs us l h = let a = length-append us (drop m xs) in let d = length-drop m xs in omega arith
-
-pub two_parts : {X : Type 0} (a k m : ℕ) (xs us vs : List X) → length us ≡ a → a ≤ length xs → m ≡ a → k ≡ length xs - a
-    → put_mid a k (us ++ post_of 0 m xs) vs ≡ us ++ vs
-two_parts a k m xs us vs l h p n =
-    let q = two_long m xs us (omega arith) (omega arith) in
-    let t : take a (us ++ post_of 0 m xs) ≡ us = take_at us (post_of 0 m xs) a l in
-    let d : drop k (drop a (us ++ post_of 0 m xs)) ≡ [] =
-    drop-drop k a (us ++ post_of 0 m xs) ∙ drop_all (a + k) (us ++ post_of 0 m xs) (omega arith) in
-    rw (t, d, append-nil vs) refl
-
 -- how long `&s[a..]` is
 pub long_from : {X : Type 0} (xs : List X) (a : ℕ) → length (take (length xs - a) (drop a xs)) ≡ length xs - a
 long_from xs a = let d = length-drop a xs in length-take-le (length xs - a) (drop a xs) (omega arith)

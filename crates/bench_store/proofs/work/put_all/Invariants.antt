@@ -1,6 +1,0 @@
-use Rattle.std.proofs.Common.{◌≤◌}
-use Rattle.store.specs.Calls.{Held}
-use Rattle.bench_store.proofs.work.put_all.Given as goal
-
-abbrev pub invariant-loop-k : goal.invariant-loop-k
-invariant-loop-k l = Held l.region × (l.done ≤ l.k)
