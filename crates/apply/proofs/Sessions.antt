@@ -3,11 +3,11 @@ use Rattle.std.proofs.Common.{◌≡◌, ℕ, ◌≤◌, Bool, eqb, List, [], �
 use borrow.Rule.Slice.PartMut.{put_mid}
 use Rattle.std.proofs.lemmas.List.{append-nil, take_all, get_or_append_left, get_or-append_right}
 use Rattle.std.specs.Bool.{then_some}
-use Rattle.servers.specs.Store.{Perhaps}
 use Rattle.servers.specs.Server.{Cached, nth, no_cached}
-use Rattle.texts.specs.Words.{PerhapsText, perhaps_words, perhaps_in}
+use Rattle.texts.specs.Words.{perhaps_words, perhaps_in}
 use Rattle.texts.proofs.Cells.{length_perhaps_words}
 use Rattle.store.specs.Calls.{OfPerhaps}
+use Rattle.raft_log.proofs.Sound.{expected_low}
 use Rattle.raft_log.proofs.Written.{three_parts}
 use Rattle.memory.specs.Words.{cached_words, cached_in, cache_words, cache_in, GoodCached}
 use Rattle.memory.proofs.Parts.{bit_again, length_cached, cache_again}
@@ -53,16 +53,12 @@ session_back x g =
     sym (ap cached_in (ap (take 68) e ∙ t)) ∙ ap (λ (xs : List Cached). nth no_cached xs 0) (cache_again (x ∷ []) [] (g, tt))
 
 -- its replies are as long as their words allow
-first_low : (p : Perhaps) → PerhapsText 256 p → get_or (perhaps_words 32 p) 0 0 ≤ 257
-first_low [] g = omega arith
-first_low (t ∷ ts) g = let h = g.0.0 in omega arith
-
 pub now_low : (x : Cached) → GoodCached x → get_or (cached_words x) 2 0 ≤ 257
 unfolding cached_words
 now_low x g =
     let l = length_perhaps_words 32 x.reply.now in
     let e = get_or_append_left (perhaps_words 32 x.reply.now) (perhaps_words 32 x.reply.old) 0 0 (omega arith) in
-    let z = first_low x.reply.now g.now in
+    let z = expected_low x.reply.now g.now in
     omega arith
 
 pub old_low : (x : Cached) → GoodCached x → get_or (cached_words x) 35 0 ≤ 257
@@ -70,5 +66,5 @@ unfolding cached_words
 old_low x g =
     let l = length_perhaps_words 32 x.reply.now in
     let e = get_or-append_right (perhaps_words 32 x.reply.now) (perhaps_words 32 x.reply.old) 33 33 0 l (omega arith) in
-    let z = first_low x.reply.old g.old in
+    let z = expected_low x.reply.old g.old in
     omega arith

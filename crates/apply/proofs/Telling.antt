@@ -1,6 +1,6 @@
 -- What a client is told: it stands in the client's session once the entry is applied, and its bytes are those of the session's parts.
 use Rattle.std.proofs.Common.{◌≡◌, ℕ, zero, suc, ◌+◌, ◌<◌, ◌≤◌, Bool, true, false, ◌&&◌, ◌||◌, eqb, List, [], ◌∷◌, ◌++◌, length, get_or, take, drop, Some, None, Option, sym, refl, ap, ◌∙◌, arith}
-use Rattle.std.proofs.lemmas.List.{append-nil, length-drop, length-take-le, get_or-take, get_or-drop}
+use Rattle.std.proofs.lemmas.List.{append-nil}
 use Rattle.std.proofs.lemmas.Bool.{and_parts, eqb-true}
 use Rattle.servers.specs.Store.{pick, Reply, reply}
 use Rattle.servers.specs.Server.{Entry, Said, Cached, Limits, State, nth, set_at, no_cached, is_new, is_again, do_one, tell_one}
@@ -25,14 +25,6 @@ session_bytes c ws = refl
 pub room_said : (c at n : ℕ) (ws : List ℕ) → at + length (write_said (kept_for c (cached_in ws))) ≤ n
     → at + length (write_number c ++ (write_number (get_or ws 1 0) ++ (reply_bytes 2 ws ++ reply_bytes 35 ws))) ≤ n
 room_said c at n ws h = let e = ap length (session_bytes c ws) in omega arith
-
-pub part_long : (a : ℕ) (ws : List ℕ) → a + 33 ≤ length ws → length (part a ws) ≡ 33
-part_long a ws h = let d = length-drop a ws in length-take-le 33 (drop a ws) (omega arith)
-
-pub part_first : (a : ℕ) (ws : List ℕ) → get_or (part a ws) 0 0 ≡ get_or ws a 0
-part_first a ws =
-    let z : a + 0 ≡ a = omega arith in
-    get_or-take 33 (drop a ws) 0 0 (omega arith) ∙ (get_or-drop a ws 0 0 ∙ ap (λ (n : ℕ). get_or ws n 0) z)
 
 -- one that is told
 pub one_said : (x : Said) → write_saids (x ∷ []) ≡ write_said x

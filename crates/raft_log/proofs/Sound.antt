@@ -20,7 +20,7 @@ third_first : (n : ℕ) (xs ys zs : List ℕ) → length xs ≡ 9 → length ys 
 third_first n xs ys zs l m =
     get_or-append_right xs (ys ++ zs) 9 42 0 l (omega arith) ∙ get_or-append_right ys zs 33 33 0 m (omega arith)
 
-expected_low : (e : Perhaps) → PerhapsText 256 e → get_or (perhaps_words 32 e) 0 0 ≤ 257
+pub expected_low : (e : Perhaps) → PerhapsText 256 e → get_or (perhaps_words 32 e) 0 0 ≤ 257
 expected_low [] g = omega arith
 expected_low (t ∷ ts) g = let h = g.0.0 in omega arith
 

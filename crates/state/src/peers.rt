@@ -5,7 +5,8 @@ ghost use Rattle.memory.specs.Layout.{servers_in, room_in};
 ghost use Rattle.state.specs.Held.{Held, Becomes, limits_of, state_of};
 ghost use Rattle.state.specs.States.{with_matches, forgot};
 
-use crate::layout::{HEAD, LENGTH, SERVERS};
+use crate::layout::{HEAD, LENGTH};
+use crate::limits::servers;
 
 // The next index for a server; where none is known, the log's last index.
 pub fn next_for(mem: &[u64], h: usize) -> u64
@@ -33,7 +34,7 @@ pub fn match_of(mem: &[u64], h: usize) -> u64
     ensures value { result ≡ nth 0 (state_of mem.now).matches h }
     ensures low { result ≤ room_in mem.now }
 {
-    mem[HEAD + mem[SERVERS] as usize + h]
+    mem[HEAD + servers(mem) + h]
 }
 
 pub fn set_match(mem: &mut [u64], h: usize, i: u64)
@@ -43,8 +44,8 @@ pub fn set_match(mem: &mut [u64], h: usize, i: u64)
     ensures { Becomes mem.old mem.new
         (with_matches (set_at (state_of mem.old).matches h i) (state_of mem.old)) }
 {
-    let servers = mem[SERVERS] as usize;
-    mem[HEAD + servers + h] = i;
+    let at = HEAD + servers(mem) + h;
+    mem[at] = i;
 }
 
 // Nothing is known of any server.
@@ -52,6 +53,6 @@ pub fn forget(mem: &mut [u64])
     requires held { Held mem.old }
     ensures { Becomes mem.old mem.new (forgot (limits_of mem.old) (state_of mem.old)) }
 {
-    let servers = mem[SERVERS] as usize;
-    mem[HEAD..HEAD + 2 * servers].fill(0);
+    let end = HEAD + 2 * servers(mem);
+    mem[HEAD..end].fill(0);
 }

@@ -8,5 +8,5 @@ pub returns : goal.returns
 returns c =
     let m : List ℕ = c.args.mem.now in
     let s = state_of m in
-    let n : c.max-done.result ≡ at_least s.applied s.commit = let k = at_least_is c.applied.result c.commit.result in cc in
+    let n : c.max-done.result ≡ at_least s.applied s.commit = let k = at_least_is s.applied s.commit in cc in
     said m c.set_applied.new.mem _ _ (ap (λ (k : ℕ). with_applied k s) n) c.set_applied.ensures

@@ -2,8 +2,10 @@ use Rattle.std.proofs.Common.{ℕ, List, ◌++◌, length, get_or, arith}
 use Rattle.wire.specs.Write.{write_number}
 use Rattle.wire_write.proofs.Putting.{writes_as, writes_then}
 use Rattle.wire_write.proofs.Texts.{length_number}
+use Rattle.raft_log.proofs.Commands.{first_of}
 use Rattle.raft_log.proofs.Rooms.{room_first, room_next}
-use Rattle.apply.proofs.Telling.{reply_bytes, session_bytes, room_said, part_long, part_first}
+use Rattle.raft_log.proofs.Written.{length_part}
+use Rattle.apply.proofs.Telling.{reply_bytes, session_bytes, room_said}
 use Rattle.apply.proofs.tell.write_session.Goals as goal
 
 pub write_number-number-requires : goal.write_number-number-requires
@@ -33,8 +35,8 @@ write_perhaps_in-before-requires c =
     let whole = room_said c.args.client c.args.at (length c.args.out.now) ws c.requires.room in
     let size = c.requires.size in
     let low = c.requires.after in
-    let long = part_long 2 ws (omega arith) in
-    let first = part_first 2 ws in
+    let long = length_part 2 33 ws (omega arith) in
+    let first = first_of 2 33 ws (omega arith) in
     record {
       some = omega arith;
       sound = omega arith;
@@ -50,8 +52,8 @@ write_perhaps_in-requires c =
     let whole = room_said c.args.client c.args.at (length c.args.out.now) ws c.requires.room in
     let size = c.requires.size in
     let low = c.requires.before in
-    let long = part_long 35 ws (omega arith) in
-    let first = part_first 35 ws in
+    let long = length_part 35 33 ws (omega arith) in
+    let first = first_of 35 33 ws (omega arith) in
     record {
       some = omega arith;
       sound = omega arith;

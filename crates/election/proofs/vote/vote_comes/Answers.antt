@@ -45,7 +45,7 @@ returns-then-counts c =
     let order = c.in-Equal.ensures in
     let e : (state_of m).term ≡ c.args.term = grind (arith, common_steps) in
     said m c.hear.new.mem _ _
-    (sym (counted (limits_of m) (state_of m) c.args.h c.args.term c.args.granted e (sym c.is_candidate-counts.ensures ∙ c.if-counts.true)))
+    (sym (counted (limits_of m) (state_of m) c.args.h c.args.term c.args.granted e (sym c.if-counts.ensures)))
     c.hear.ensures
 
 pub returns-else-counts : goal.returns-else-counts
@@ -55,5 +55,5 @@ returns-else-counts c =
     let order = c.in-Equal.ensures in
     let e : (state_of m).term ≡ c.args.term = grind (arith, common_steps) in
     said m m _ _
-    (sym (left (limits_of m) (state_of m) c.args.h c.args.term c.args.granted e (sym c.is_candidate-counts.ensures ∙ c.if-counts.false)))
+    (sym (left (limits_of m) (state_of m) c.args.h c.args.term c.args.granted e (sym c.if-counts.ensures)))
     (stays m c.requires.held)
