@@ -2,7 +2,7 @@ use Rattle.std.proofs.Common.{◌≡◌, Bool, true, false, ℕ, ◌==◌, ◌<�
 use Rattle.std.proofs.lemmas.Bool.{lt-ltb, le-ltb}
 use Rattle.servers.specs.Server.{Limits, State, with_term, voted_on, hears_vote}
 use Rattle.servers.proofs.Tests.{pick_true, pick_false}
-use Rattle.state.specs.Held.{limits_of, state_of}
+use Rattle.state.specs.Memory.{limits_of, state_of}
 use Rattle.state.proofs.Laws.{stays, said}
 use Rattle.election.proofs.vote.vote_comes.Goals as goal
 
@@ -25,13 +25,13 @@ pub returns-then-own-term : goal.returns-then-own-term
 returns-then-own-term c =
     let m = c.args.mem.now in
     let n : (state_of m).term < c.args.term = omega (arith, c.term-own.ensures.value, c.if-own-term.true) in
-    said m c.take_term.new.mem _ _ (sym (newer (limits_of m) (state_of m) c.args.h c.args.term c.args.granted n)) c.take_term.ensures
+    said m c.take_term.new.self _ _ (sym (newer (limits_of m) (state_of m) c.args.h c.args.term c.args.granted n)) c.take_term.ensures
 
 pub returns-then-term-own : goal.returns-then-term-own
 returns-then-term-own c =
     let m = c.args.mem.now in
     let n : c.args.term < (state_of m).term = omega (arith, c.term-own.ensures.value, c.if-term-own.true) in
-    said m m _ _ (sym (older (limits_of m) (state_of m) c.args.h c.args.term c.args.granted n)) (stays m c.requires.held)
+    said m m _ _ (sym (older (limits_of m) (state_of m) c.args.h c.args.term c.args.granted n)) (stays m)
 
 pub returns-then-counts : goal.returns-then-counts
 returns-then-counts c =
@@ -47,4 +47,4 @@ returns-else-counts c =
     let e : (state_of m).term ≡ c.args.term = omega (arith, c.term-own.ensures.value, c.if-own-term.false, c.if-term-own.false) in
     said m m _ _
     (sym (left (limits_of m) (state_of m) c.args.h c.args.term c.args.granted e (sym c.if-counts.ensures)))
-    (stays m c.requires.held)
+    (stays m)
