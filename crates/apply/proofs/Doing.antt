@@ -1,8 +1,7 @@
 -- A command of the log done on the store in memory, and its reply kept.
 use Rattle.std.proofs.Common.{◌≡◌, ℕ, suc, ◌-◌, ◌*◌, ◌<◌, ◌≤◌, List, [], ◌∷◌, ◌++◌, length, get_or, take, drop, replicate, sym, refl, ap, ◌∙◌, subst, inl, inr, arith}
 use borrow.Rule.Slice.PartMut.{put_mid}
-use Rattle.std.proofs.lemmas.Bool.{cases_lt}
-use Rattle.std.proofs.lemmas.List.{append_assoc, drop_at, take_at, take_rest}
+use Rattle.std.proofs.lemmas.List.{take_rest}
 use Rattle.servers.specs.Store.{Command, Store, done, reply}
 use Rattle.servers.specs.Server.{Entry, Limits}
 use Rattle.texts.specs.Words.{All, perhaps_words, perhaps_in}
@@ -13,11 +12,12 @@ use Rattle.store.specs.Calls as calls
 use Rattle.store.specs.Calls.{OfPerhaps, OfCommand, Does}
 use Rattle.store.proofs.Regions.{ok_do, items_do}
 use Rattle.store.proofs.CommandParts.{of_perhaps}
-use Rattle.raft_log.specs.Rows.{row_words, row_in, log_words}
+use Rattle.raft_log.specs.Rows.{row_words, row_in}
 use Rattle.raft_log.specs.Places.{row_at, entry_in}
 use Rattle.raft_log.specs.declared.row.Numbers.{Numbers}
 use Rattle.raft_log.specs.Numbers.{numbers_of}
-use Rattle.raft_log.proofs.Rows.{length_row, length_log_words, command_back}
+use Rattle.raft_log.proofs.Rows.{command_back}
+use Rattle.raft_log.proofs.Sound.{each_row}
 use Rattle.memory.specs.Layout.{clients_in, room_in, store_at, log_part, region_in}
 use Rattle.memory.specs.Fits.{EntryFits}
 use Rattle.memory.proofs.Stored.{done_good, done_long, reply_good}
@@ -73,29 +73,6 @@ reply_read x st a b g h u v =
           ∙ ap (λ (z : List (List ℕ)). record { now = (reply x st).now; old = z }) o,
     )
 
--- what holds of the row of each entry holds of each row of a log, whatever stands after it
-last_row : (es : List Entry) (e : Entry) (more : List ℕ)
-    → take 80 (drop (80 * length es) (log_words es ++ (row_words e ++ more))) ≡ row_words e
-last_row es e more =
-    rw (drop_at (log_words es) (row_words e ++ more) (80 * length es) (length_log_words es)) (take_at (row_words e) more 80 (length_row e))
-
-each_row : (P : List ℕ → Type 0) (Q : Entry → Type 0) → ((e : Entry) → Q e → P (row_words e)) → (es : List Entry) (more : List ℕ)
-    → All Q es → (i : ℕ) → 0 < i → i ≤ length es → P (row_at i (log_words es ++ more))
-unfolding log_words
-each_row P Q by [] more g i some most = absurd (omega arith)
-each_row P Q by (e ∷ es) more g i some most =
-    let a = append_assoc (log_words es) (row_words e) more in
-    subst (λ (ws : List ℕ). P (row_at i ws)) (sym a) (
-    elim (cases_lt i (suc (length es))) [
-      | inl k ↦ each_row P Q by es (row_words e ++ more) g.1 i some (omega arith)
-      | inr k ↦
-          let z : i - 1 ≡ length es = omega arith in
-          let at : row_at i (log_words es ++ (row_words e ++ more)) ≡ row_words e =
-          ap (λ (n : ℕ). take 80 (drop (80 * n) (log_words es ++ (row_words e ++ more)))) z ∙ last_row es e more in
-          subst P (sym at) (by e g.0)
-    ]
-    )
-
 -- the row of an entry: its command can be done, and its client is there
 pub record RowFits (clients : ℕ) (ws : List ℕ) : Type 0 where
   pub command : OfCommand (drop 4 ws)
@@ -136,10 +113,9 @@ entry_client m i h some there =
     let b = client_read i (log_part m) in
     omega arith
 
-pub client_held : (m ws : List ℕ) (i : ℕ) (n : Numbers) → Held m → 0 < i → i ≤ length (state_of m).log → ws ≡ log_part m
-    → n ≡ numbers_of (entry_in i ws) → n.client < clients_in m
-client_held m ws i n h some there e k =
+pub client_held : (m : List ℕ) (i : ℕ) (n : Numbers) → Held m → 0 < i → i ≤ length (state_of m).log
+    → n ≡ numbers_of (entry_in i (log_part m)) → n.client < clients_in m
+client_held m i n h some there k =
     let a = entry_client m i h some there in
-    let d = ap (λ (z : List ℕ). (entry_in i z).client) e in
     let f = ap (λ (x : Numbers). x.client) k in
     omega arith

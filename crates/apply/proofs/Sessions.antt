@@ -2,6 +2,7 @@
 use Rattle.std.proofs.Common.{◌≡◌, ℕ, ◌≤◌, Bool, eqb, List, [], ◌∷◌, ◌++◌, length, get_or, take, set, sym, refl, ap, ◌∙◌, arith}
 use borrow.Rule.Slice.PartMut.{put_mid}
 use Rattle.std.proofs.lemmas.List.{append-nil, take_all, get_or_append_left, get_or-append_right}
+use Rattle.std.specs.Bool.{then_some}
 use Rattle.servers.specs.Store.{Perhaps}
 use Rattle.servers.specs.Server.{Cached, nth, no_cached}
 use Rattle.texts.specs.Words.{PerhapsText, perhaps_words, perhaps_in}
@@ -12,17 +13,15 @@ use Rattle.memory.specs.Words.{cached_words, cached_in, cache_words, cache_in, G
 use Rattle.memory.proofs.Parts.{bit_again, length_cached, cache_again}
 use Rattle.memory.proofs.Each.{all_nth}
 use Rattle.state.specs.Held.{Held, state_of}
-use Rattle.apply.specs.declared.session.Last.{Last}
 use Rattle.apply.specs.Means.{last_of}
 use Rattle.apply.specs.Applied.{session, answered, reply_in}
 
 -- the first two words
 pub last_words : (x : Cached) (ws : List ℕ) → ws ≡ cached_words x
-    → ◌≡◌ {A = Last} (record { done = eqb (get_or ws 0 0) 1; number = get_or ws 1 0 }) (last_of x)
+    → then_some (eqb (get_or ws 0 0) 1) (get_or ws 1 0) ≡ last_of x
 unfolding cached_words
 last_words x ws e =
-    ap (λ (z : List ℕ). record { done = eqb (get_or z 0 0) 1; number = get_or z 1 0 }) e
-    ∙ ap (λ (b : Bool). record { done = b; number = x.id }) (bit_again x.there)
+    ap (λ (z : List ℕ). then_some (eqb (get_or z 0 0) 1) (get_or z 1 0)) e ∙ ap (λ (b : Bool). then_some b x.id) (bit_again x.there)
 
 -- the words of a session that was written
 pub packed : (k : ℕ) (row a b : List ℕ) → length row ≡ 68 → length a ≡ 33 → length b ≡ 33

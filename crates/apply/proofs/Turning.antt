@@ -1,30 +1,13 @@
--- What a memory turns into, said otherwise, and one change after the other.
-use Rattle.std.proofs.Common.{◌≡◌, ℕ, Bool, true, false, not, ◌||◌, ltb, List, sym, refl, ap, ◌∙◌}
+-- What an entry does to the state and the region, by what the code tests.
+use Rattle.std.proofs.Common.{◌≡◌, ℕ, Bool, true, false, not, ◌||◌, ltb, List, Option, sym, refl, ap, ◌∙◌}
 use Rattle.servers.specs.Store.{Command, Reply, reply}
-use Rattle.servers.specs.Server.{Entry, State, is_new, do_one}
+use Rattle.servers.specs.Server.{Entry, Cached, State, is_new, do_one}
 use Rattle.servers.proofs.Tests.{pick_true, pick_false}
 use Rattle.store.specs.Region.{region_do}
 use Rattle.raft_log.specs.declared.row.Numbers.{Numbers}
 use Rattle.raft_log.specs.Numbers.{numbers_of}
-use Rattle.state.specs.Held.{Turns, Becomes, state_of}
-use Rattle.apply.specs.declared.session.Last.{Last}
 use Rattle.apply.specs.Applied.{session, answered, with_session, with_store_done, did, region_one}
 use Rattle.apply.specs.Means.{last_of}
-
--- the same state and region, said otherwise
-pub turns_said : (m m' : List ℕ) (s t : State) (r u : List ℕ) → s ≡ t → r ≡ u → Turns m m' s r → Turns m m' t u
-turns_said m m' s t r u e k a = record { held = a.held; state = a.state ∙ e; limits = a.limits; region = a.region ∙ k }
-
--- then a change that leaves the region as it is
-pub turns_then : (f : State → State) (m m₁ m₂ : List ℕ) (s t : State) (r u : List ℕ)
-    → Turns m m₁ s r → Becomes m₁ m₂ (f (state_of m₁)) → f s ≡ t → r ≡ u → Turns m m₂ t u
-turns_then f m m₁ m₂ s t r u a b e k =
-    record {
-      held = b.held;
-      state = b.state ∙ (ap f a.state ∙ e);
-      limits = b.limits ∙ a.limits;
-      region = b.region ∙ (a.region ∙ k);
-    }
 
 -- a command done, and then its reply kept
 pub done_kept : (s : State) (x y : Command) (q : Reply) (c k : ℕ) → x ≡ y → q ≡ reply x s.store
@@ -32,9 +15,9 @@ pub done_kept : (s : State) (x y : Command) (q : Reply) (c k : ℕ) → x ≡ y 
 done_kept s x y q c k e f = rw (f, e) refl
 
 -- whether an entry is new, as the code tests it
-pub new_tested : (s : State) (e : Entry) (n : Numbers) (x : Last) (b : Bool) → n ≡ numbers_of e → x ≡ last_of (session s n.client)
-    → b ≡ (not x.done || ltb x.number n.number) → b ≡ is_new s e
-new_tested s e n x b p q t = rw (t, q, p) refl
+pub new_tested : (s : State) (e : Entry) (n : Numbers) (o : Option ℕ) (b : Bool) → n ≡ numbers_of e → o ≡ last_of (session s n.client)
+    → ((x : Cached) → o ≡ last_of x → b ≡ (not x.there || ltb x.id n.number)) → b ≡ is_new s e
+new_tested s e n o b p q t = t (session s n.client) q ∙ rw p refl
 
 -- an entry that is new is done
 pub new_state : (s : State) (e : Entry) (n : Numbers) → n ≡ numbers_of e → is_new s e ≡ true

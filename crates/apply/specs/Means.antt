@@ -1,7 +1,8 @@
--- What the code's types mean. Assumes nothing: these are definitions.
+-- What the code's values mean. Assumes nothing: these are definitions.
+use Rattle.std.specs.Prelude.{ℕ, Option}
+use Rattle.std.specs.Bool.{then_some}
 use Rattle.servers.specs.Server.{Cached}
-use Rattle.apply.specs.declared.session.Last.{Last}
 
 -- the last number done, of a session
-abbrev pub last_of : Cached → Last
-last_of x = record { done = x.there; number = x.id }
+abbrev pub last_of : Cached → Option ℕ
+last_of x = then_some x.there x.id

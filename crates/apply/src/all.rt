@@ -24,9 +24,9 @@ fn due_to(mem: &[u64]) -> usize
     requires held { Held mem.now }
     ensures { result ≡ min (state_of mem.now).commit (length (state_of mem.now).log) }
 {
-    let commit = head::commit(mem) as usize;
-    let last = head::last_index(mem) as usize;
-    if commit < last { commit } else { last }
+    let commit = head::commit(mem);
+    let last = head::last_index(mem);
+    commit.min(last) as usize
 }
 
 // The next entry. The applied index is moved first, so that there is room for what its command adds.
@@ -53,12 +53,6 @@ fn apply_next(mem: &mut [u64], index: usize, out: &mut [u8], told: Told) -> Told
     }
 }
 
-fn larger(a: u64, b: u64) -> u64
-    ensures { result ≡ at_least a b }
-{
-    if a < b { b } else { a }
-}
-
 // What is committed counts as applied, also past the end of the log.
 fn finish(mem: &mut [u64])
     requires held { Held mem.old }
@@ -66,7 +60,7 @@ fn finish(mem: &mut [u64])
         (with_applied (at_least (state_of mem.old).applied (state_of mem.old).commit)
         (state_of mem.old)) }
 {
-    let done = larger(head::applied(mem), head::commit(mem));
+    let done = head::applied(mem).max(head::commit(mem));
     head::set_applied(mem, done);
 }
 
@@ -80,11 +74,10 @@ pub fn apply_all(mem: &mut [u64], out: &mut [u8], at: usize) -> Told
     ensures count { result.count ≡ length (all_told mem.old) }
 {
     let to = due_to(mem);
-    let mut index = head::applied(mem) as usize;
+    let applied = head::applied(mem) as usize;
     let mut told = Told { count: 0, next: at };
-    while index < to {
-        index += 1;
-        told = apply_next(mem, index, out, told);
+    for done in applied..to {
+        told = apply_next(mem, done + 1, out, told);
     }
     finish(mem);
     told

@@ -12,11 +12,11 @@ ghost use Rattle.state.specs.Held.{Held, Turns, state_of};
 ghost use Rattle.apply.specs.Applied.{reply_in, with_store_done, did, region_one, told_client};
 ghost use Rattle.apply.specs.InMemory.{entry_of, told_of};
 
-use crate::session::{keep, last_done};
+use crate::session::{is_again, is_new, keep, last_done};
 use raft_log::find;
 use raft_log::row::Numbers;
 use state::limits::{limits, store_at};
-use state::parts::log_part;
+use state::parts::log;
 use store::commands::do_command;
 
 // A command on the store in memory. The applied index counts it already, so there is room for one item more.
@@ -47,7 +47,7 @@ fn command_at(mem: &[u64], index: usize) -> &[u64]
     ensures long { length result.now ≡ 76 }
     ensures value { command_in result.now ≡ (entry_of mem.now index).command }
 {
-    find::command_at(log_part(mem), index)
+    find::command_at(log(mem), index)
 }
 
 // Does the command of an entry, and keeps its reply.
@@ -73,11 +73,7 @@ fn do_new(mem: &mut [u64], index: usize, client: usize, number: u64)
 fn client_to_tell(me: u64, numbers: Numbers, new: bool, again: bool) -> Option<u64>
     ensures { result ≡ pick (numbers.server == me && (new || again)) (Some numbers.client) None }
 {
-    if numbers.server == me && (new || again) {
-        Some(numbers.client)
-    } else {
-        None
-    }
+    (numbers.server == me && (new || again)).then_some(numbers.client)
 }
 
 // The numbers of the entry at an index that the log has.
@@ -88,7 +84,7 @@ fn numbers_at(mem: &[u64], index: usize) -> Numbers
     ensures value { result ≡ numbers_of (entry_of mem.now index) }
     ensures client { result.client < clients_in mem.now }
 {
-    find::numbers_at(log_part(mem), index)
+    find::numbers_at(log(mem), index)
 }
 
 // Applies the entry at an index that the log has, and says which client is to be told.
@@ -105,8 +101,8 @@ pub fn do_one(mem: &mut [u64], index: usize) -> Option<u64>
     let numbers = numbers_at(mem, index);
     let client = numbers.client as usize;
     let last = last_done(mem, client);
-    let new = last.is_new(numbers.number);
-    let again = last.is_again(numbers.number);
+    let new = is_new(last, numbers.number);
+    let again = is_again(last, numbers.number);
     let told = client_to_tell(limits(mem).me, numbers, new, again);
     if new {
         do_new(mem, index, client, numbers.number);

@@ -1,49 +1,38 @@
 // A client's session: whether any command of it was done, the last number done, and its reply, in 68 words.
 ghost use Rattle.std.specs.Prelude.{◌≡◌, ◌+◌, ◌-◌, ◌<◌, not, ◌&&◌, ◌||◌, ◌∷◌, ◌++◌, length, ◌==◌, nat_lt};
+ghost use Rattle.servers.specs.Server.{Cached};
 ghost use Rattle.memory.specs.Layout.{clients_in};
 ghost use Rattle.store.specs.Calls.{OfPerhaps};
 ghost use Rattle.state.specs.Held.{Held, Becomes, state_of};
 ghost use Rattle.apply.specs.Applied.{session, answered, reply_in, with_session};
 ghost use Rattle.apply.specs.Means.{last_of};
 
+use state::layout::SESSION;
 use state::parts::{session_at, session_part};
 use texts::copy::copy_text;
 
-const SESSION: usize = 68;
-
 // The last number done for a client, if any was.
-#[derive(Clone, Copy)]
-pub struct Last {
-    pub done: bool,
-    pub number: u64,
-}
-
-impl Last {
-    // Whether a command of this number is to be done: its number is above the last done.
-    pub fn is_new(self, number: u64) -> bool
-        ensures { result ≡ (not self.done || nat_lt self.number number) }
-    {
-        !self.done || self.number < number
-    }
-
-    // Whether it is just the last done, asked again.
-    pub fn is_again(self, number: u64) -> bool
-        ensures { result ≡ (self.done && self.number == number) }
-    {
-        self.done && self.number == number
-    }
-}
-
-pub fn last_done(mem: &[u64], client: usize) -> Last
+pub fn last_done(mem: &[u64], client: usize) -> Option<u64>
     requires held { Held mem.now }
     requires there { client < clients_in mem.now }
     ensures { result ≡ last_of (session (state_of mem.now) client) }
 {
     let kept = session_part(mem, client);
-    Last {
-        done: kept[0] == 1,
-        number: kept[1],
-    }
+    (kept[0] == 1).then_some(kept[1])
+}
+
+// Whether a command of this number is to be done: its number is above the last done.
+pub fn is_new(last: Option<u64>, number: u64) -> bool
+    ensures { (x : Cached) → last ≡ last_of x → result ≡ (not x.there || nat_lt x.id number) }
+{
+    last.is_none_or(|done| done < number)
+}
+
+// Whether it is just the last done, asked again.
+pub fn is_again(last: Option<u64>, number: u64) -> bool
+    ensures { (x : Cached) → last ≡ last_of x → result ≡ (x.there && x.id == number) }
+{
+    last == Some(number)
 }
 
 fn pack_session(row: &mut [u64], number: u64, after: &[u64], before: &[u64])

@@ -9,7 +9,7 @@ ghost use Rattle.entries.specs.Steps.{CanTake, last_in, commits_to, extended, ex
 use crate::rows::replace_entries;
 use raft_log::find;
 use state::head;
-use state::parts::log_part;
+use state::parts::log;
 use wire_read::forward::first_place;
 use wire_read::parts::Entries;
 
@@ -53,8 +53,7 @@ fn has_before(mem: &[u64], before: u64, before_term: u64) -> bool
     requires held { Held mem.now }
     ensures { result ≡ has_before (state_of mem.now) before before_term }
 {
-    let len = head::last_index(mem);
-    before == 0 || find::has_term(log_part(mem), len as usize, before, before_term)
+    before == 0 || find::has_term(log(mem), before, before_term)
 }
 
 fn is_older(term: u64, own: u64) -> bool
@@ -79,14 +78,7 @@ fn has_new(mem: &[u64], b: &[u8], entries: Entries, last: Last) -> bool
     requires last { last ≡ last_in (entries_of b.now entries) }
     ensures { result ≡ has_new (state_of mem.now) (entries_of b.now entries) }
 {
-    let len = head::last_index(mem);
-    find::has_new(
-        log_part(mem),
-        len as usize,
-        entries.count,
-        last.index,
-        last.term,
-    )
+    find::has_new(log(mem), entries.count, last.index, last.term)
 }
 
 // The entries are written to their places, and the commit index goes up.

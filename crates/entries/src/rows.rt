@@ -11,10 +11,9 @@ use raft_log::append::push;
 use raft_log::replace::replace;
 use raft_log::row::{Numbers, ROW};
 use state::head;
+use state::layout::LENGTH;
 use state::limits::{limits, log_at};
 use wire_read::parts::{Command, Entries};
-
-const LENGTH: usize = 10;
 
 // One entry more at the log's end.
 pub fn push_entry(mem: &mut [u64], numbers: Numbers, b: &[u8], command: Command)

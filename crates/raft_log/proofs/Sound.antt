@@ -48,21 +48,25 @@ last_row : (es : List Entry) (e : Entry) (more : List ℕ)
 last_row es e more =
     rw (drop_at (log_words es) (row_words e ++ more) (80 * length es) (length_log_words es)) (take_at (row_words e) more 80 (length_row e))
 
--- and so the rows of a log, whatever stands after it
-pub sound_log : (servers clients last : ℕ) (es : List Entry) (more : List ℕ) → servers ≤ 256 → All (GoodEntry servers clients last) es
-    → Sound (length es) (log_words es ++ more)
+-- what holds of the row of each entry holds of each row of a log, whatever stands after it
+pub each_row : (P : List ℕ → Type 0) (Q : Entry → Type 0) → ((e : Entry) → Q e → P (row_words e)) → (es : List Entry) (more : List ℕ)
+    → All Q es → (i : ℕ) → 0 < i → i ≤ length es → P (row_at i (log_words es ++ more))
 unfolding log_words
-sound_log servers clients last [] more h g i some most = absurd (omega arith)
-sound_log servers clients last (e ∷ es) more h g i some most =
+each_row P Q by [] more g i some most = absurd (omega arith)
+each_row P Q by (e ∷ es) more g i some most =
     let a = append_assoc (log_words es) (row_words e) more in
+    subst (λ (ws : List ℕ). P (row_at i ws)) (sym a) (
     elim (cases_lt i (suc (length es))) [
-      | inl k ↦
-          subst (λ (ws : List ℕ). SoundRow (row_at i ws)) (sym a)
-          (sound_log servers clients last es (row_words e ++ more) h g.1 i some (omega arith))
+      | inl k ↦ each_row P Q by es (row_words e ++ more) g.1 i some (omega arith)
       | inr k ↦
           let z : i - 1 ≡ length es = omega arith in
           let at : row_at i (log_words es ++ (row_words e ++ more)) ≡ row_words e =
           ap (λ (n : ℕ). take 80 (drop (80 * n) (log_words es ++ (row_words e ++ more)))) z ∙ last_row es e more in
-          subst (λ (ws : List ℕ). SoundRow (row_at i ws)) (sym a)
-          (subst (λ (row : List ℕ). SoundRow row) (sym at) (sound_row servers clients last e h g.0))
+          subst P (sym at) (by e g.0)
     ]
+    )
+
+pub sound_log : (servers clients last : ℕ) (es : List Entry) (more : List ℕ) → servers ≤ 256 → All (GoodEntry servers clients last) es
+    → Sound (length es) (log_words es ++ more)
+sound_log servers clients last es more h g =
+    each_row SoundRow (GoodEntry servers clients last) (λ e k. sound_row servers clients last e h k) es more g

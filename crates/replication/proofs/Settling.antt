@@ -24,12 +24,12 @@ pub have_no : (i j : ℕ) (ms : List ℕ) → j < length ms → leb i (nth 0 ms 
     → have_it i (drop j ms) ≡ have_it i (drop (j + 1) ms)
 have_no i j ms h y = have_more i j ms h ∙ pick_false _ _ _ y
 
-pub have_none : (i n : ℕ) (ms : List ℕ) → length ms ≡ n → have_it i (drop n ms) ≡ 0
+have_none : (i n : ℕ) (ms : List ℕ) → length ms ≡ n → have_it i (drop n ms) ≡ 0
 unfolding have_it
 have_none i n ms h = rw (drop_all n ms (omega arith)) refl
 
 -- what decides on the entry at i
-abbrev pub decides : Limits → State → List ℕ → ℕ → Bool
+abbrev decides : Limits → State → List ℕ → ℕ → Bool
 decides l s ws i = (eqb (entry_in i ws).term s.term && ltb s.commit i) && ltb (l.servers / 2) (have_it i s.matches)
 
 settled_more : (l : Limits) (s : State) (ws : List ℕ) (i : ℕ) → 0 < i
@@ -44,9 +44,22 @@ settled_yes l s ws i e k h =
     settled_more l s ws i (omega arith)
     ∙ pick_true _ _ _ (and_from _ _ (and_from _ _ e (lt-ltb _ _ k)) (lt-ltb _ _ h))
 
-pub settled_no : (l : Limits) (s : State) (ws : List ℕ) (i : ℕ) → 0 < i → decides l s ws i ≡ false
+settled_no : (l : Limits) (s : State) (ws : List ℕ) (i : ℕ) → 0 < i → decides l s ws i ≡ false
     → settled_to l s (log_in i ws) ≡ settled_to l s (log_in (i - 1) ws)
 settled_no l s ws i k e = settled_more l s ws i k ∙ pick_false _ _ _ e
+
+-- further down, since it is of another term, or too few have it
+pub settled_other : (l : Limits) (s : State) (ws : List ℕ) (i : ℕ) → 0 < i → eqb (entry_in i ws).term s.term ≡ false
+    → settled_to l s (log_in i ws) ≡ settled_to l s (log_in (i - 1) ws)
+settled_other l s ws i k e = settled_no l s ws i k (and_left _ _ (and_left _ _ e))
+
+pub settled_few : (l : Limits) (s : State) (ws : List ℕ) (i n : ℕ) → 0 < i → length s.matches ≡ n
+    → have_it i s.matches ≤ l.servers / 2 + have_it i (drop n s.matches)
+    → settled_to l s (log_in i ws) ≡ settled_to l s (log_in (i - 1) ws)
+settled_few l s ws i n k e h =
+    let z = have_none i n s.matches e in
+    let few : have_it i s.matches ≤ l.servers / 2 = omega arith in
+    settled_no l s ws i k (and_right _ _ (le-ltb _ _ few))
 
 -- or as far as it was
 pub settled_none : (l : Limits) (s : State) (ws : List ℕ) (i : ℕ) → i ≤ s.commit → settled_to l s (log_in i ws) ≡ s.commit

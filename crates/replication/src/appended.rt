@@ -1,7 +1,7 @@
 // Another server says whether it has entries up to an index. If it has, its match and next index go up; if it lacks what stands
 // before them, its next index goes down by one, to try again with more.
 ghost use Rattle.std.specs.Prelude.{◌≡◌, ℕ, ◌+◌, ◌-◌, ◌<◌, ◌≤◌, Bool, true, false};
-ghost use Rattle.servers.specs.Server.{State, at_least, last_of_all, hears_appended};
+ghost use Rattle.servers.specs.Server.{State, last_of_all, hears_appended};
 ghost use Rattle.memory.specs.Layout.{servers_in, room_in};
 ghost use Rattle.state.specs.Held.{Held, Becomes, limits_of, state_of};
 ghost use Rattle.replication.specs.Heard.{heard_from, has_state, lacks_state};
@@ -16,12 +16,6 @@ pub enum Heard {
     Has(u64),
     // that it lacks what stands before them
     Lacks,
-}
-
-fn larger(a: u64, b: u64) -> u64
-    ensures { result ≡ at_least a b }
-{
-    if a < b { b } else { a }
 }
 
 fn hear(own: u64, term: u64, index: u64, ok: bool) -> Heard
@@ -40,8 +34,8 @@ fn has(mem: &mut [u64], h: usize, index: u64)
     requires low { index ≤ room_in mem.old }
     ensures { Becomes mem.old mem.new (has_state (state_of mem.old) h index) }
 {
-    let next = larger(peers::next_for(mem, h), index + 1);
-    let known = larger(peers::match_of(mem, h), index);
+    let next = peers::next_for(mem, h).max(index + 1);
+    let known = peers::match_of(mem, h).max(index);
     peers::set_next(mem, h, next);
     peers::set_match(mem, h, known);
 }

@@ -1,5 +1,5 @@
 -- A letter is what stands before its message, and the message.
-use Rattle.std.proofs.Common.{◌≡◌, ℕ, ◌+◌, ◌-◌, List, ◌++◌, length, get_or, sym, refl, ap, ◌∙◌, subst, arith}
+use Rattle.std.proofs.Common.{◌≡◌, ℕ, ◌+◌, ◌-◌, List, ◌++◌, length, sym, refl, ap, ◌∙◌, subst, arith}
 use Rattle.std.proofs.lemmas.List.{length-append}
 use Rattle.servers.specs.Server.{
   Entry,
@@ -21,9 +21,8 @@ use Rattle.wire_write.specs.Put.{Writes}
 use Rattle.wire_write.proofs.Answering.{append_parts}
 use Rattle.wire_write.proofs.Putting.{writes_as, writes_before, writes_then}
 use Rattle.wire_write.proofs.Texts.{length_number}
-use Rattle.raft_log.specs.Rows.{Row, log_in}
+use Rattle.raft_log.specs.Rows.{Row}
 use Rattle.raft_log.proofs.Places.{length_above}
-use Rattle.memory.specs.Layout.{log_part}
 use Rattle.state.specs.Held.{state_of}
 use Rattle.sending.specs.Letters.{post, asks, append_from}
 
@@ -61,25 +60,16 @@ append_written t i u c k log row e f w v =
     ∙ append_parts t i (term_of (entry_at i log)) c es))
     (writes_then w v)
 
--- what the words of a memory say is what its state says
+-- what is read from a memory is what its state says
 pub same_append :
-    (m ws : List ℕ) (h n t b c : ℕ) → n ≡ get_or m 10 0 → ws ≡ log_part m → t ≡ (state_of m).term → b ≡ next_for (state_of m) h - 1
-    → c ≡ (state_of m).commit → append_from (log_in n ws) t b c ≡ to_server (state_of m) h
-same_append m ws h n t b c p q r s u =
-    let log : log_in n ws ≡ (state_of m).log = ap (λ (k : ℕ). log_in k ws) p ∙ ap (log_in (get_or m 10 0)) q in
-    ap (λ (l : List Entry). append_from l t b c) log
-    ∙ (ap (λ (x : ℕ). append_from (state_of m).log x b c) r
-    ∙ (ap (λ (x : ℕ). append_from (state_of m).log (state_of m).term x c) s
-    ∙ ap (append_from (state_of m).log (state_of m).term (next_for (state_of m) h - 1)) u))
+    (m : List ℕ) (log : List Entry) (h t b c : ℕ) → log ≡ (state_of m).log → t ≡ (state_of m).term → b ≡ next_for (state_of m) h - 1
+    → c ≡ (state_of m).commit → append_from log t b c ≡ to_server (state_of m) h
+same_append m log h t b c p r s u = rw (p, r, s, u) refl
 
 pub same_ask :
-    (m ws : List ℕ) (n t u : ℕ) → n ≡ get_or m 10 0 → ws ≡ log_part m → t ≡ (state_of m).term → n ≡ last_index (state_of m).log
-    → u ≡ last_term (log_in n ws) → ask_vote t n u ≡ asks (state_of m)
-same_ask m ws n t u p q r s e =
-    let log : log_in n ws ≡ (state_of m).log = ap (λ (k : ℕ). log_in k ws) p ∙ ap (log_in (get_or m 10 0)) q in
-    ap (λ (x : ℕ). ask_vote x n u) r
-    ∙ (ap (λ (x : ℕ). ask_vote (state_of m).term x u) s
-    ∙ ap (ask_vote (state_of m).term (last_index (state_of m).log)) (e ∙ ap last_term log))
+    (m : List ℕ) (log : List Entry) (n t u : ℕ) → log ≡ (state_of m).log → t ≡ (state_of m).term → n ≡ last_index (state_of m).log
+    → u ≡ last_term log → ask_vote t n u ≡ asks (state_of m)
+same_ask m log n t u p r s e = rw (r, s, e, p) refl
 
 pub length_ask_message : (s : State) → length (write_message (asks s)) ≡ 25
 unfolding write_number

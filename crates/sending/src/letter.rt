@@ -11,7 +11,7 @@ ghost use Rattle.sending.specs.Letters.{post, asks};
 use crate::append::write_append;
 use raft_log::find::last_term;
 use state::head;
-use state::parts::log_part;
+use state::parts::log;
 use state::peers::next_for;
 use wire_write::answer::write_letter_head;
 use wire_write::message::{write_appended, write_ask_vote, write_vote};
@@ -67,7 +67,7 @@ pub fn write_ask_letter(mem: &[u64], out: &mut [u8], at: usize, h: usize) -> usi
 {
     let term = head::term(mem);
     let len = head::last_index(mem);
-    let last = last_term(log_part(mem), len as usize);
+    let last = last_term(log(mem));
     let end = write_ask_vote(out, at + HEAD, term, len, last);
     seal(out, at, h as u8, end)
 }
@@ -89,9 +89,8 @@ pub fn write_entries_letter(mem: &[u64], out: &mut [u8], at: usize, h: usize) ->
     ensures { Writes at (post h (to_server (state_of mem.now) h)) out.old out.new result }
 {
     let before = sent_before(mem, h);
-    let len = head::last_index(mem) as usize;
     let term = head::term(mem);
     let commit = head::commit(mem);
-    let end = write_append(out, at + HEAD, log_part(mem), len, term, before, commit);
+    let end = write_append(out, at + HEAD, log(mem), term, before, commit);
     seal(out, at, h as u8, end)
 }

@@ -1,6 +1,8 @@
 -- From a memory that is held to the next: leaf, chain and top.
-use Rattle.std.proofs.Common.{◌≡◌, ℕ, ◌+◌, ◌*◌, ◌≤◌, List, length, get_or, sym, refl, ap, ◌∙◌, subst, arith}
-use Rattle.servers.specs.Server.{Limits, State, Event, last_index, after}
+use Rattle.std.proofs.Common.{◌≡◌, ℕ, ◌+◌, ◌*◌, ◌≤◌, max, List, length, get_or, sym, refl, ap, ◌∙◌, subst, inl, inr, arith}
+use Rattle.std.proofs.lemmas.Bool.{cases_lt, lt-ltb, le-ltb}
+use Rattle.servers.specs.Server.{Limits, State, Event, last_index, at_least, after}
+use Rattle.servers.proofs.Tests.{pick_true, pick_false}
 use Rattle.raft_log.proofs.Places.{log_in_row, last_index_row}
 use Rattle.memory.specs.Layout as layout
 use Rattle.memory.specs.Layout.{memory_of, log_part}
@@ -110,3 +112,11 @@ pub last_is : (m : List ℕ) → last_index (held.state_of m).log ≡ get_or m 1
 last_is m =
     let row = log_in_row (get_or m 10 0) (log_part m) in
     last_index_row (held.state_of m).log row.0 ∙ row.1
+
+-- the larger of two numbers, as the library has it
+pub at_least_is : (a b : ℕ) → max a b ≡ at_least a b
+at_least_is a b =
+    elim (cases_lt a b) [
+      | inl k ↦ sym (pick_true _ b a (lt-ltb a b k) ∙ omega arith)
+      | inr k ↦ sym (pick_false _ b a (le-ltb a b k) ∙ omega arith)
+    ]

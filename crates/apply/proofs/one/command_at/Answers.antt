@@ -1,6 +1,5 @@
-use Rattle.std.proofs.Common.{ℕ, List, drop, ap, ◌∙◌}
+use Rattle.std.proofs.Common.{ℕ, List, drop, ap, ◌∙◌, arith}
 use Rattle.store.proofs.CommandParts.{command_long}
-use Rattle.raft_log.specs.Places.{row_at}
 use Rattle.apply.proofs.Doing.{command_held}
 use Rattle.apply.proofs.one.command_at.Goals as goal
 
@@ -8,6 +7,8 @@ pub returns : goal.returns
 returns c =
     let i : ℕ = c.args.index in
     let ws : List ℕ = c.command_at.result.now in
-    let e = c.command_at.ensures ∙ ap (λ (z : List ℕ). drop 4 (row_at i z)) c.log_part.ensures.rows in
+    let there = c.requires.there in
+    let long = c.log.ensures.long in
+    let e = c.command_at.ensures ∙ ap (drop 4) (c.log.ensures.rows i c.requires.some (omega arith)) in
     let x = command_held c.args.mem.now ws i c.requires.held c.requires.some c.requires.there e in
     record { command = x.0; long = command_long ws x.0; value = x.1 }

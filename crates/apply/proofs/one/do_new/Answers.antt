@@ -6,7 +6,8 @@ use Rattle.memory.specs.Layout.{region_in}
 use Rattle.state.specs.Held.{state_of}
 use Rattle.apply.specs.Applied.{answered, reply_in, with_session, with_store_done}
 use Rattle.apply.specs.InMemory.{entry_of}
-use Rattle.apply.proofs.Turning.{turns_then, done_kept}
+use Rattle.state.proofs.Laws.{turns_then}
+use Rattle.apply.proofs.Turning.{done_kept}
 use Rattle.apply.proofs.one.do_new.Goals as goal
 
 pub returns : goal.returns

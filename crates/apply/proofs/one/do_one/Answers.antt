@@ -2,9 +2,9 @@ use Rattle.std.proofs.Common.{◌≡◌, ℕ, true, false, List, sym, ◌∙◌}
 use Rattle.servers.specs.Server.{Entry, is_new}
 use Rattle.memory.specs.Layout.{region_in}
 use Rattle.state.specs.Held.{state_of}
-use Rattle.state.proofs.Laws.{stays}
+use Rattle.state.proofs.Laws.{stays, turns_said}
 use Rattle.apply.specs.InMemory.{entry_of}
-use Rattle.apply.proofs.Turning.{turns_said, new_tested, new_state, new_region, old_state, old_region}
+use Rattle.apply.proofs.Turning.{new_tested, new_state, new_region, old_state, old_region}
 use Rattle.apply.proofs.one.do_one.Goals as goal
 
 pub returns-then-new-clause-turns : goal.returns-then-new-clause-turns

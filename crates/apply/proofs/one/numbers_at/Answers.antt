@@ -1,14 +1,18 @@
-use Rattle.std.proofs.Common.{ℕ, List, ap, ◌∙◌}
+use Rattle.std.proofs.Common.{◌≡◌, ℕ, List, ap, ◌∙◌, arith}
+use Rattle.raft_log.specs.Rows.{row_in}
 use Rattle.raft_log.specs.Places.{entry_in}
+use Rattle.raft_log.specs.declared.row.Numbers.{Numbers}
 use Rattle.raft_log.specs.Numbers.{numbers_of}
+use Rattle.memory.specs.Layout.{log_part}
 use Rattle.apply.proofs.Doing.{client_held}
 use Rattle.apply.proofs.one.numbers_at.Goals as goal
 
 pub returns : goal.returns
 returns c =
-    record {
-      value = c.numbers_at.ensures
-          ∙ ap (λ (z : List ℕ). numbers_of (entry_in c.args.index z)) c.log_part.ensures.rows;
-      client = client_held c.args.mem.now c.log_part.result.now c.args.index c.numbers_at.result c.requires.held
-          c.requires.some c.requires.there c.log_part.ensures.rows c.numbers_at.ensures;
-    }
+    let i : ℕ = c.args.index in
+    let there = c.requires.there in
+    let long = c.log.ensures.long in
+    let e : ◌≡◌ {A = Numbers} c.numbers_at.result (numbers_of (entry_in i (log_part c.args.mem.now))) =
+    c.numbers_at.ensures
+    ∙ ap (λ (z : List ℕ). numbers_of (row_in i z)) (c.log.ensures.rows i c.requires.some (omega arith)) in
+    record { value = e; client = client_held c.args.mem.now i c.numbers_at.result c.requires.held c.requires.some c.requires.there e }

@@ -17,5 +17,5 @@ bounds-kept-1 c =
 
 pub returns : goal.returns
 returns c =
-    last_words (session (state_of c.args.mem.now) c.args.client) c.session_part-kept.result.now
-    c.session_part-kept.ensures
+    c.then_some.ensures
+    ∙ last_words (session (state_of c.args.mem.now) c.args.client) c.session_part-kept.result.now c.session_part-kept.ensures

@@ -1,5 +1,6 @@
 use Rattle.std.proofs.Common.{arith}
 use Rattle.servers.specs.Server.{State}
+use Rattle.raft_log.specs.Places.{log_of}
 use Rattle.state.specs.Held.{state_of}
 use Rattle.sending.specs.Letters.{asks}
 use Rattle.sending.proofs.letter.write_ask_letter.Goals as goal
@@ -15,7 +16,6 @@ write_ask_vote-end-requires c =
 pub returns : goal.returns
 returns c =
     sealed
-    (same_ask c.args.mem.now c.log_part.result.now c.last_index-len.result c.term-term.result c.last_term-last.result
-    c.last_index-len.ensures.word c.log_part.ensures.rows c.term-term.ensures.value c.last_index-len.ensures.last
-    c.last_term-last.ensures)
+    (same_ask c.args.mem.now (log_of c.log.result.now) c.last_index-len.result c.term-term.result c.last_term-last.result
+    c.log.ensures.log c.term-term.ensures.value c.last_index-len.ensures.last c.last_term-last.ensures)
     c.write_ask_vote-end.ensures.bytes c.seal.ensures.head c.seal.ensures.same
