@@ -2,13 +2,11 @@
 // log is as new as its own.
 ghost use Rattle.std.specs.Prelude.{◌≡◌, Bool, true, false, ◌&&◌, ◌||◌, List, [], ◌∷◌, ℕ, ◌<◌, ◌≤◌, ltb, leb, eqb, length};
 ghost use Rattle.servers.specs.Server.{State, Letter, Message, ask_vote, last_of_all, as_new, empty, may_vote, asked, back};
-ghost use Rattle.memory.specs.Layout.{servers_in};
-ghost use Rattle.state.specs.Held.{Held, Becomes, limits_of, state_of};
+ghost use Rattle.state.specs.Memory.{Becomes, limits_of, servers_in, state_of};
 ghost use Rattle.election.specs.Steps.{newer, carried};
 
 use raft_log::find::last_term;
-use state::head;
-use state::parts::log;
+use state::memory::Memory;
 
 // What is said to who asks: the term, and whether it has the vote.
 #[derive(Clone, Copy)]
@@ -25,43 +23,40 @@ fn is_newer(own: u64, length: u64, of: u64, last: u64) -> bool
     own < of || (of == own && length <= last)
 }
 
-pub fn is_as_new(mem: &[u64], last: u64, of: u64) -> bool
-    requires held { Held mem.now }
+pub fn is_as_new(mem: &Memory<'_>, last: u64, of: u64) -> bool
     ensures { result ≡ as_new last of (state_of mem.now) }
 {
-    let length = head::last_index(mem);
-    let own = last_term(log(mem));
+    let length = mem.last_index();
+    let own = last_term(mem.log());
     is_newer(own, length, of, last)
 }
 
 // Whether the vote of this term goes to h.
-fn grants(mem: &[u64], h: u64, last: u64, of: u64) -> bool
-    requires held { Held mem.now }
+fn grants(mem: &Memory<'_>, h: u64, last: u64, of: u64) -> bool
     requires here { h < servers_in mem.now }
     ensures { result ≡ (as_new last of (state_of mem.now)
         && (empty (state_of mem.now).leader && may_vote (state_of mem.now).voted h)) }
 {
-    is_as_new(mem, last, of) && head::may_vote(mem, h)
+    is_as_new(mem, last, of) && mem.may_vote(h)
 }
 
-pub fn asked_for_vote(mem: &mut [u64], h: u64, term: u64, last: u64, of: u64) -> Vote
-    requires held { Held mem.old }
+pub fn asked_for_vote(mem: &mut Memory<'_>, h: u64, term: u64, last: u64, of: u64) -> Vote
     requires here { h < servers_in mem.old }
     requires low { term ≤ last_of_all }
     ensures state { Becomes mem.old mem.new (asked (state_of mem.old) h term last of) }
     ensures reply { back (state_of mem.old) h (ask_vote term last of) ≡ carried h result ∷ [] }
 {
-    let own = head::term(mem);
+    let own = mem.term();
     if term < own {
         return Vote {
             term: own,
             granted: false,
         };
     }
-    head::advance(mem, term);
+    mem.advance(term);
     let granted = grants(mem, h, last, of);
     if granted {
-        head::vote_for(mem, h);
+        mem.vote_for(h);
     }
     Vote { term, granted }
 }

@@ -1,2 +1,4 @@
 pub mod Held
 pub mod States
+pub mod Memory
+pub mod Once

@@ -16,11 +16,11 @@ ghost use Rattle.servers.specs.Server.{
   last_index,
   last_of_all,
 };
-ghost use Rattle.memory.specs.Layout.{servers_in, me_in, room_in};
-ghost use Rattle.state.specs.Held.{Held, Becomes, limits_of, state_of};
+ghost use Rattle.state.specs.Memory.{Becomes, limits_of, room_in, servers_in, state_of};
 ghost use Rattle.state.specs.States.{with_kind, calmed};
 
 use crate::layout::{APPLIED, COMMIT, LEADER, LENGTH, ME, ROLE, SEND, TERM, VOTE, VOTES};
+use crate::memory::Memory;
 
 // A server follows, wants to lead, or leads: what its word says.
 #[derive(Clone, Copy, PartialEq, Eq, Debug)]
@@ -30,162 +30,150 @@ pub enum Role {
     Leader = 2,
 }
 
-pub fn term(mem: &[u64]) -> u64
-    requires held { Held mem.now }
-    ensures value { result ≡ (state_of mem.now).term }
-    ensures low { result ≤ last_of_all }
-{
-    mem[TERM]
-}
+impl Memory<'_> {
+    pub fn term(&self) -> u64
+        ensures value { result ≡ (state_of self.now).term }
+        ensures low { result ≤ last_of_all }
+    {
+        self.words[TERM]
+    }
 
-pub fn commit(mem: &[u64]) -> u64
-    requires held { Held mem.now }
-    ensures value { result ≡ (state_of mem.now).commit }
-    ensures low { result ≤ room_in mem.now }
-{
-    mem[COMMIT]
-}
+    pub fn commit(&self) -> u64
+        ensures value { result ≡ (state_of self.now).commit }
+        ensures low { result ≤ room_in self.now }
+    {
+        self.words[COMMIT]
+    }
 
-pub fn applied(mem: &[u64]) -> u64
-    requires held { Held mem.now }
-    ensures value { result ≡ (state_of mem.now).applied }
-    ensures low { result ≤ room_in mem.now }
-{
-    mem[APPLIED]
-}
+    pub fn applied(&self) -> u64
+        ensures value { result ≡ (state_of self.now).applied }
+        ensures low { result ≤ room_in self.now }
+    {
+        self.words[APPLIED]
+    }
 
-// The length of the log, which is its last index.
-pub fn last_index(mem: &[u64]) -> u64
-    requires held { Held mem.now }
-    ensures word { result ≡ slice_index mem.now 10 }
-    ensures last { result ≡ last_index (state_of mem.now).log }
-    ensures low { result ≤ room_in mem.now }
-{
-    mem[LENGTH]
-}
+    // The length of the log, which is its last index.
+    pub fn last_index(&self) -> u64
+        ensures word { result ≡ slice_index self.now.words.now 10 }
+        ensures last { result ≡ last_index (state_of self.now).log }
+        ensures low { result ≤ room_in self.now }
+    {
+        self.words[LENGTH]
+    }
 
-pub fn is_leader(mem: &[u64]) -> bool
-    requires held { Held mem.now }
-    ensures { result ≡ ((state_of mem.now).kind == 2) }
-{
-    mem[ROLE] == Role::Leader as u64
-}
+    pub fn is_leader(&self) -> bool
+        ensures { result ≡ ((state_of self.now).kind == 2) }
+    {
+        self.words[ROLE] == Role::Leader as u64
+    }
 
-pub fn is_candidate(mem: &[u64]) -> bool
-    requires held { Held mem.now }
-    ensures { result ≡ ((state_of mem.now).kind == 1) }
-{
-    mem[ROLE] == Role::Candidate as u64
-}
+    pub fn is_candidate(&self) -> bool
+        ensures { result ≡ ((state_of self.now).kind == 1) }
+    {
+        self.words[ROLE] == Role::Candidate as u64
+    }
 
-// Whether the server knows no leader, and gave its vote to nobody but h.
-pub fn may_vote(mem: &[u64], h: u64) -> bool
-    requires held { Held mem.now }
-    requires here { h < servers_in mem.now }
-    ensures { result ≡ (empty (state_of mem.now).leader && may_vote (state_of mem.now).voted h) }
-{
-    mem[LEADER] == 0 && (mem[VOTE] == 0 || mem[VOTE] == h + 1)
-}
+    // Whether the server knows no leader, and gave its vote to nobody but h.
+    pub fn may_vote(&self, h: u64) -> bool
+        requires here { h < servers_in self.now }
+        ensures { result ≡ (empty (state_of self.now).leader && may_vote (state_of self.now).voted h) }
+    {
+        self.words[LEADER] == 0 && (self.words[VOTE] == 0 || self.words[VOTE] == h + 1)
+    }
 
-// A newer term: no vote yet, no leader known, and the server follows.
-pub fn take_term(mem: &mut [u64], t: u64)
-    requires held { Held mem.old }
-    requires low { t ≤ last_of_all }
-    ensures { Becomes mem.old mem.new (with_term t (state_of mem.old)) }
-{
-    mem[TERM] = t;
-    mem[VOTE] = 0;
-    mem[LEADER] = 0;
-    mem[ROLE] = Role::Follower as u64;
-}
+    // A newer term: no vote yet, no leader known, and the server follows.
+    pub fn take_term(&mut self, t: u64)
+        requires low { t ≤ last_of_all }
+        ensures { Becomes self.old self.new (with_term t (state_of self.old)) }
+    {
+        let words = &mut *self.words;
+        words[TERM] = t;
+        words[VOTE] = 0;
+        words[LEADER] = 0;
+        words[ROLE] = Role::Follower as u64;
+    }
 
-pub fn vote_for(mem: &mut [u64], h: u64)
-    requires held { Held mem.old }
-    requires here { h < servers_in mem.old }
-    ensures { Becomes mem.old mem.new (with_voted h (state_of mem.old)) }
-{
-    mem[VOTE] = h + 1;
-}
+    pub fn vote_for(&mut self, h: u64)
+        requires here { h < servers_in self.old }
+        ensures { Becomes self.old self.new (with_voted h (state_of self.old)) }
+    {
+        self.words[VOTE] = h + 1;
+    }
 
-pub fn follow(mem: &mut [u64], h: u64)
-    requires held { Held mem.old }
-    requires here { h < servers_in mem.old }
-    ensures { Becomes mem.old mem.new (following h (state_of mem.old)) }
-{
-    mem[LEADER] = h + 1;
-    mem[ROLE] = Role::Follower as u64;
-}
+    pub fn follow(&mut self, h: u64)
+        requires here { h < servers_in self.old }
+        ensures { Becomes self.old self.new (following h (state_of self.old)) }
+    {
+        let words = &mut *self.words;
+        words[LEADER] = h + 1;
+        words[ROLE] = Role::Follower as u64;
+    }
 
-// A candidate of the next term, with its own vote.
-pub fn stand(mem: &mut [u64])
-    requires held { Held mem.old }
-    requires more { (state_of mem.old).term < last_of_all }
-    ensures { Becomes mem.old mem.new (wants (limits_of mem.old) (state_of mem.old)) }
-{
-    let me = mem[ME];
-    mem[TERM] += 1;
-    mem[VOTE] = me + 1;
-    mem[VOTES] = 1 << me;
-    mem[ROLE] = Role::Candidate as u64;
-}
+    // A candidate of the next term, with its own vote.
+    pub fn stand(&mut self)
+        requires more { (state_of self.old).term < last_of_all }
+        ensures { Becomes self.old self.new (wants (limits_of self.old) (state_of self.old)) }
+    {
+        let words = &mut *self.words;
+        let me = words[ME];
+        words[TERM] += 1;
+        words[VOTE] = me + 1;
+        words[VOTES] = 1 << me;
+        words[ROLE] = Role::Candidate as u64;
+    }
 
-pub fn lead(mem: &mut [u64])
-    requires held { Held mem.old }
-    ensures { Becomes mem.old mem.new (with_kind 2 (state_of mem.old)) }
-{
-    mem[ROLE] = Role::Leader as u64;
-}
+    pub fn lead(&mut self)
+        ensures { Becomes self.old self.new (with_kind 2 (state_of self.old)) }
+    {
+        self.words[ROLE] = Role::Leader as u64;
+    }
 
-// What a restart sets back in the head.
-pub fn calm(mem: &mut [u64])
-    requires held { Held mem.old }
-    ensures { Becomes mem.old mem.new (calmed (limits_of mem.old) (state_of mem.old)) }
-{
-    mem[ROLE] = Role::Follower as u64;
-    mem[VOTES] = 0;
-    mem[SEND] = 0;
-}
+    // What a restart sets back in the head.
+    pub fn calm(&mut self)
+        ensures { Becomes self.old self.new (calmed (limits_of self.old) (state_of self.old)) }
+    {
+        let words = &mut *self.words;
+        words[ROLE] = Role::Follower as u64;
+        words[VOTES] = 0;
+        words[SEND] = 0;
+    }
 
-pub fn set_commit(mem: &mut [u64], c: u64)
-    requires held { Held mem.old }
-    requires low { c ≤ room_in mem.old }
-    ensures { Becomes mem.old mem.new (with_commit c (state_of mem.old)) }
-{
-    mem[COMMIT] = c;
-}
+    pub fn set_commit(&mut self, c: u64)
+        requires low { c ≤ room_in self.old }
+        ensures { Becomes self.old self.new (with_commit c (state_of self.old)) }
+    {
+        self.words[COMMIT] = c;
+    }
 
-// The applied index only grows.
-pub fn set_applied(mem: &mut [u64], a: u64)
-    requires held { Held mem.old }
-    requires more { (state_of mem.old).applied ≤ a }
-    requires low { a ≤ room_in mem.old }
-    ensures { Becomes mem.old mem.new (with_applied a (state_of mem.old)) }
-{
-    mem[APPLIED] = a;
-}
+    // The applied index only grows.
+    pub fn set_applied(&mut self, a: u64)
+        requires more { (state_of self.old).applied ≤ a }
+        requires low { a ≤ room_in self.old }
+        ensures { Becomes self.old self.new (with_applied a (state_of self.old)) }
+    {
+        self.words[APPLIED] = a;
+    }
 
-// Whether there is reason to send entries.
-pub fn set_send(mem: &mut [u64], send: bool)
-    requires held { Held mem.old }
-    ensures { Becomes mem.old mem.new (with_send send (state_of mem.old)) }
-{
-    mem[SEND] = u64::from(send);
-}
+    // Whether there is reason to send entries.
+    pub fn set_send(&mut self, send: bool)
+        ensures { Becomes self.old self.new (with_send send (state_of self.old)) }
+    {
+        self.words[SEND] = u64::from(send);
+    }
 
-pub fn must_send(mem: &[u64]) -> bool
-    requires held { Held mem.now }
-    ensures { result ≡ (state_of mem.now).send }
-{
-    mem[SEND] == 1
-}
+    pub fn must_send(&self) -> bool
+        ensures { result ≡ (state_of self.now).send }
+    {
+        self.words[SEND] == 1
+    }
 
-// A term that is newer is taken; any other changes nothing.
-pub fn advance(mem: &mut [u64], t: u64)
-    requires held { Held mem.old }
-    requires low { t ≤ last_of_all }
-    ensures { Becomes mem.old mem.new (advanced t (state_of mem.old)) }
-{
-    if term(mem) < t {
-        take_term(mem, t);
+    // A term that is newer is taken; any other changes nothing.
+    pub fn advance(&mut self, t: u64)
+        requires low { t ≤ last_of_all }
+        ensures { Becomes self.old self.new (advanced t (state_of self.old)) }
+    {
+        if self.term() < t {
+            self.take_term(t);
+        }
     }
 }

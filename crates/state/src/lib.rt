@@ -1,5 +1,4 @@
 // A server's state in its words: what each word holds, read and written, proved against the states of the definitions.
-// `Held mem` stands in each contract: a struct over lent words needs it after each single write, or hides whose words they are (tried).
 #![tactic(auto)]
 
 ghost use Rattle.state.specs.Held.{AlwaysHeld};
@@ -7,6 +6,7 @@ ghost use Rattle.state.specs.Held.{AlwaysHeld};
 pub mod head;
 pub mod layout;
 pub mod limits;
+pub mod memory;
 pub mod parts;
 pub mod peers;
 pub mod votes;

@@ -1,30 +1,12 @@
 // The limits of a server, read from its memory, and what follows from them.
 ghost use Rattle.std.specs.Prelude.{◌≡◌, ℕ, ◌+◌, ◌*◌, ◌/◌, ◌^◌, ◌<◌, ◌≤◌, length, nat_lt};
-ghost use Rattle.memory.specs.Layout.{servers_in, log_at, store_at, cache_at};
-ghost use Rattle.state.specs.Held.{Held, limits_held};
+ghost use Rattle.memory.specs.Layout.{log_at, store_at, cache_at};
+ghost use Rattle.state.specs.Memory.{limits_held, servers_in};
 
 use crate::layout::{CLIENTS, HEAD, ME, ROOM, SERVERS, SESSION};
+use crate::memory::Memory;
 use raft_log::row::ROW;
 use servers::limits::Limits;
-
-pub fn limits(mem: &[u64]) -> Limits
-    requires held { Held mem.now }
-    ensures { result ≡ limits_held mem.now }
-{
-    Limits {
-        servers: mem[SERVERS],
-        me: mem[ME],
-        clients: mem[CLIENTS],
-        room: mem[ROOM],
-    }
-}
-
-pub fn servers(mem: &[u64]) -> usize
-    requires held { Held mem.now }
-    ensures { result ≡ servers_in mem.now }
-{
-    mem[SERVERS] as usize
-}
 
 // Whether so many servers are more than half.
 pub fn is_majority(limits: Limits, many: u32) -> bool
@@ -34,24 +16,40 @@ pub fn is_majority(limits: Limits, many: u32) -> bool
     limits.majority() <= u64::from(many)
 }
 
-// Where the clients' sessions, the log and the store begin.
-pub fn sessions_at(mem: &[u64]) -> usize
-    requires held { Held mem.now }
-    ensures { result ≡ cache_at mem.now }
-{
-    HEAD + 2 * mem[SERVERS] as usize
-}
+impl Memory<'_> {
+    pub fn limits(&self) -> Limits
+        ensures { result ≡ limits_held self.now }
+    {
+        Limits {
+            servers: self.words[SERVERS],
+            me: self.words[ME],
+            clients: self.words[CLIENTS],
+            room: self.words[ROOM],
+        }
+    }
 
-pub fn log_at(mem: &[u64]) -> usize
-    requires held { Held mem.now }
-    ensures { result ≡ log_at mem.now }
-{
-    sessions_at(mem) + SESSION * mem[CLIENTS] as usize
-}
+    pub fn servers(&self) -> usize
+        ensures { result ≡ servers_in self.now }
+    {
+        self.words[SERVERS] as usize
+    }
 
-pub fn store_at(mem: &[u64]) -> usize
-    requires held { Held mem.now }
-    ensures { result ≡ store_at mem.now }
-{
-    log_at(mem) + ROW * mem[ROOM] as usize
+    // Where the clients' sessions, the log and the store begin.
+    pub fn sessions_at(&self) -> usize
+        ensures { result ≡ cache_at self.now.words.now }
+    {
+        HEAD + 2 * self.words[SERVERS] as usize
+    }
+
+    pub fn log_at(&self) -> usize
+        ensures { result ≡ log_at self.now.words.now }
+    {
+        self.sessions_at() + SESSION * self.words[CLIENTS] as usize
+    }
+
+    pub fn store_at(&self) -> usize
+        ensures { result ≡ store_at self.now.words.now }
+    {
+        self.log_at() + ROW * self.words[ROOM] as usize
+    }
 }

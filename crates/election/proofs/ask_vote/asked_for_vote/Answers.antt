@@ -3,7 +3,7 @@ use Rattle.std.proofs.lemmas.Bool.{lt-ltb, le-ltb}
 use Rattle.servers.specs.Store.{pick}
 use Rattle.servers.specs.Server.{asked, State, with_voted, advanced, as_new, empty, may_vote, grants}
 use Rattle.servers.proofs.Tests.{pick_true, pick_false}
-use Rattle.state.specs.Held.{state_of}
+use Rattle.state.specs.Memory.{state_of}
 use Rattle.state.proofs.Laws.{stays, said, then_to}
 use Rattle.election.proofs.ask_vote.asked_for_vote.Goals as goal
 
@@ -36,14 +36,14 @@ pub returns-then-term-own-clause-state : goal.returns-then-term-own-clause-state
 returns-then-term-own-clause-state c =
     let m = c.args.mem.now in
     let e : c.args.term < (state_of m).term = omega (arith, c.term-own.ensures.value, c.if-term-own.true) in
-    said m m _ _ (sym (pick_true _ _ _ (lt-ltb c.args.term (state_of m).term e))) (stays m c.requires.held)
+    said m m _ _ (sym (pick_true _ _ _ (lt-ltb c.args.term (state_of m).term e))) (stays m)
 
 pub returns-then-granted-clause-state : goal.returns-then-granted-clause-state
 unfolding given
 returns-then-granted-clause-state c =
     let m = c.args.mem.now in
     let e : (state_of m).term ≤ c.args.term = omega (arith, c.term-own.ensures.value, c.if-term-own.false) in
-    then_to (with_voted c.args.h) m c.advance.new.mem c.vote_for.new.mem (advanced c.args.term (state_of m)) _ c.advance.ensures
+    then_to (with_voted c.args.h) m c.advance.new.self c.vote_for.new.self (advanced c.args.term (state_of m)) _ c.advance.ensures
     c.vote_for.ensures
     (sym (asked_by (state_of m) _ c.args.h c.args.term c.args.last c.args.of _ true e c.advance.ensures.state c.grants-granted.ensures
     c.if-granted.true))
@@ -53,6 +53,6 @@ unfolding given
 returns-else-granted-clause-state c =
     let m = c.args.mem.now in
     let e : (state_of m).term ≤ c.args.term = omega (arith, c.term-own.ensures.value, c.if-term-own.false) in
-    said m c.advance.new.mem (advanced c.args.term (state_of m)) _
+    said m c.advance.new.self (advanced c.args.term (state_of m)) _
     (sym (asked_by (state_of m) _ c.args.h c.args.term c.args.last c.args.of _ false e c.advance.ensures.state
     c.grants-granted.ensures c.if-granted.false)) c.advance.ensures

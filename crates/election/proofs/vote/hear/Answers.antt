@@ -1,6 +1,6 @@
 use Rattle.std.proofs.Common.{Bool, sym, ap}
 use Rattle.servers.specs.Server.{Limits, State, voted_on}
-use Rattle.state.specs.Held.{limits_of, state_of}
+use Rattle.state.specs.Memory.{limits_of, state_of}
 use Rattle.state.proofs.Laws.{said, next_then}
 use Rattle.election.specs.Steps.{fresh, voted_by}
 use Rattle.election.proofs.vote.hear.Goals as goal

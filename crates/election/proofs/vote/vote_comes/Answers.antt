@@ -3,7 +3,7 @@ use Rattle.std.proofs.lemmas.Bool.{lt-ltb, le-ltb}
 use Rattle.std.proofs.lemmas.Grind.{common_steps}
 use Rattle.servers.specs.Server.{Limits, State, with_term, voted_on, hears_vote}
 use Rattle.servers.proofs.Tests.{pick_true, pick_false}
-use Rattle.state.specs.Held.{limits_of, state_of}
+use Rattle.state.specs.Memory.{limits_of, state_of}
 use Rattle.state.proofs.Laws.{stays, said}
 use Rattle.election.proofs.vote.vote_comes.Goals as goal
 
@@ -28,7 +28,7 @@ returns-in-Less c =
     let value = c.term.ensures.value in
     let order = c.in-Less.ensures in
     let n : (state_of m).term < c.args.term = grind (arith, common_steps) in
-    said m c.take_term.new.mem _ _ (sym (newer (limits_of m) (state_of m) c.args.h c.args.term c.args.granted n)) c.take_term.ensures
+    said m c.take_term.new.self _ _ (sym (newer (limits_of m) (state_of m) c.args.h c.args.term c.args.granted n)) c.take_term.ensures
 
 pub returns-in-Greater : goal.returns-in-Greater
 returns-in-Greater c =
@@ -36,7 +36,7 @@ returns-in-Greater c =
     let value = c.term.ensures.value in
     let order = c.in-Greater.ensures in
     let n : c.args.term < (state_of m).term = grind (arith, common_steps) in
-    said m m _ _ (sym (older (limits_of m) (state_of m) c.args.h c.args.term c.args.granted n)) (stays m c.requires.held)
+    said m m _ _ (sym (older (limits_of m) (state_of m) c.args.h c.args.term c.args.granted n)) (stays m)
 
 pub returns-then-counts : goal.returns-then-counts
 returns-then-counts c =
@@ -56,4 +56,4 @@ returns-else-counts c =
     let e : (state_of m).term ≡ c.args.term = grind (arith, common_steps) in
     said m m _ _
     (sym (left (limits_of m) (state_of m) c.args.h c.args.term c.args.granted e (sym c.if-counts.ensures)))
-    (stays m c.requires.held)
+    (stays m)

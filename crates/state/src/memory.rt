@@ -1,0 +1,10 @@
+// A server's memory: lent words that hold its limits, its state and its store's region, from one method to the next. In between a method
+// may write words one by one.
+ghost use Rattle.state.specs.Held.{Held};
+ghost use Rattle.state.specs.Once.{Held_once};
+
+#[derive(Drop)]
+pub struct Memory<'a> {
+    pub words: &'a mut [u64],
+    pub ghost held: { Held words.now } by { Held_once words.now },
+}
