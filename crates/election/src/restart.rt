@@ -5,7 +5,6 @@ ghost use Rattle.state.specs.Memory.{Becomes, limits_of, state_of};
 
 use state::memory::Memory;
 
-
 pub fn start_again(mem: &mut Memory<'_>)
     ensures { Becomes mem.old mem.new
         (restarted (limits_of mem.old) (state_of mem.old)) }

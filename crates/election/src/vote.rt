@@ -5,8 +5,8 @@ ghost use Rattle.servers.specs.Server.{State, last_of_all, voted_on, hears_vote}
 ghost use Rattle.state.specs.Memory.{Becomes, limits_of, servers_in, state_of};
 ghost use Rattle.election.specs.Steps.{fresh, voted_by};
 
-use std::cmp::Ordering;
 use state::memory::Memory;
+use std::cmp::Ordering;
 
 // Nothing is known of the others, and all of the own log.
 fn start_afresh(mem: &mut Memory<'_>)

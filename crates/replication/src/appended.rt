@@ -2,11 +2,10 @@
 // before them, its next index goes down by one, to try again with more.
 ghost use Rattle.std.specs.Prelude.{◌≡◌, ℕ, ◌+◌, ◌-◌, ◌<◌, ◌≤◌, Bool, true, false};
 ghost use Rattle.servers.specs.Server.{State, last_of_all, hears_appended};
-ghost use Rattle.memory.specs.Layout.{servers_in, room_in};
-ghost use Rattle.state.specs.Held.{Held, Becomes, limits_of, state_of};
+ghost use Rattle.state.specs.Memory.{Becomes, limits_of, room_in, servers_in, state_of};
 ghost use Rattle.replication.specs.Heard.{heard_from, has_state, lacks_state};
 
-use state::{head, peers};
+use state::memory::Memory;
 
 // What it says, by case, each with a state of its own after it.
 #[derive(Clone, Copy)]
@@ -29,38 +28,35 @@ fn hear(own: u64, term: u64, index: u64, ok: bool) -> Heard
 }
 
 // Both indices only go up.
-fn has(mem: &mut [u64], h: usize, index: u64)
-    requires held { Held mem.old }
+fn has(mem: &mut Memory<'_>, h: usize, index: u64)
     requires here { h < servers_in mem.old }
     requires low { index ≤ room_in mem.old }
     ensures { Becomes mem.old mem.new (has_state (state_of mem.old) h index) }
 {
-    let next = peers::next_for(mem, h).max(index + 1);
-    let known = peers::match_of(mem, h).max(index);
-    peers::set_next(mem, h, next);
-    peers::set_match(mem, h, known);
+    let next = mem.next_for(h).max(index + 1);
+    let known = mem.match_of(h).max(index);
+    mem.set_next(h, next);
+    mem.set_match(h, known);
 }
 
-fn lacks(mem: &mut [u64], h: usize)
-    requires held { Held mem.old }
+fn lacks(mem: &mut Memory<'_>, h: usize)
     requires here { h < servers_in mem.old }
     ensures { Becomes mem.old mem.new (lacks_state (state_of mem.old) h) }
 {
-    let next = peers::next_for(mem, h);
-    peers::set_next(mem, h, next.saturating_sub(1));
+    let next = mem.next_for(h);
+    mem.set_next(h, next.saturating_sub(1));
 }
 
-pub fn appended_comes(mem: &mut [u64], h: usize, term: u64, index: u64, ok: bool)
-    requires held { Held mem.old }
+pub fn appended_comes(mem: &mut Memory<'_>, h: usize, term: u64, index: u64, ok: bool)
     requires here { h < servers_in mem.old }
     requires low { term ≤ last_of_all }
     requires within { index ≤ room_in mem.old }
     ensures { Becomes mem.old mem.new
         (hears_appended (state_of mem.old) h term index ok) }
 {
-    let own = head::term(mem);
+    let own = mem.term();
     match hear(own, term, index, ok) {
-        Heard::OtherTerm => head::advance(mem, term),
+        Heard::OtherTerm => mem.advance(term),
         Heard::Has(up_to) => has(mem, h, up_to),
         Heard::Lacks => lacks(mem, h),
     }

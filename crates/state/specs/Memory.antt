@@ -33,6 +33,10 @@ state_of m = held.state_of m.words.now
 abbrev pub region_in : Memory → List ℕ
 region_in m = layout.region_in m.words.now
 
+-- the rows of the log, with those that it has room for
+abbrev pub log_part : Memory → List ℕ
+log_part m = layout.log_part m.words.now
+
 -- m' is m with the state s and the store's region r, in the same lent words: since it is held these equations pin every word
 pub record Turns (m m' : Memory) (s : State) (r : List ℕ) : Type 0 where
   pub same : m'.words.ghost_name ≡ m.words.ghost_name
