@@ -26,9 +26,9 @@ use Rattle.servers.specs.Promise.{eight, fine, all_fine, fine_message, readable}
 use Rattle.texts.specs.Commands.{GoodCommand}
 use Rattle.wire_read.specs.Means.{entries_of}
 use Rattle.wire_read.specs.declared.parts.Entries.{Entries}
-use Rattle.memory.specs.Layout.{servers_in, room_in}
+use Rattle.state.specs.Memory.{limits_of, room_in, servers_in, state_of}
+use Rattle.state.specs.declared.memory.Memory.{Memory}
 use Rattle.memory.proofs.Good.{good_command, good_entries}
-use Rattle.state.specs.Held.{limits_of, state_of}
 use Rattle.entries.specs.Steps.{CanTake}
 use Rattle.entries.proofs.Logs.{count_is}
 
@@ -59,7 +59,7 @@ request_given l s c k x o p leads =
     by true false e q = refl
     by true true e q = absurd (omega arith)
 
-pub append_given : (m : List ℕ) (h t i u c : ℕ) (es : Entries)
+pub append_given : (m : Memory) (h t i u c : ℕ) (es : Entries)
     → turned (limits_of m) (state_of m) (comes h (append t i u (entries_of es) c)) ≡ 0
     → readable (comes h (append t i u (entries_of es) c)) ≡ true
     → (h < servers_in m) × (t ≤ last_of_all) × (c ≤ room_in m) × CanTake m i es

@@ -8,9 +8,9 @@ use Rattle.raft_log.specs.declared.row.Numbers.{Numbers}
 use Rattle.wire_read.specs.Means.{entries_of}
 use Rattle.wire_read.specs.declared.parts.Entries.{Entries}
 use Rattle.texts.specs.Words.{All}
-use Rattle.memory.specs.Layout.{room_in}
+use Rattle.state.specs.Memory.{limits_of, room_in}
+use Rattle.state.specs.declared.memory.Memory.{Memory}
 use Rattle.memory.specs.Fits.{EntryFits}
-use Rattle.state.specs.Held.{limits_of}
 use Rattle.entries.specs.declared.append.Last.{Last}
 use Rattle.entries.specs.declared.append.Reply.{Reply}
 
@@ -22,7 +22,7 @@ abbrev pub pushed : State → Numbers → Command → State
 pushed s n x = with_log (next_entry s n x ∷ s.log) s.commit s
 
 -- entries that the log of a memory can take after an index: in a row, within the room, each of them good
-pub record CanTake (m : List ℕ) (i : ℕ) (es : Entries) : Type 0 where
+pub record CanTake (m : Memory) (i : ℕ) (es : Entries) : Type 0 where
   pub room : i + es.count ≤ room_in m
   pub row : in_a_row i (entries_of es) ≡ true
   pub good : All (EntryFits (limits_of m)) (entries_of es)

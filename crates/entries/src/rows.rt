@@ -2,45 +2,43 @@
 ghost use Rattle.std.specs.Prelude.{◌<◌, ◌≤◌};
 ghost use Rattle.servers.specs.Server.{last_index};
 ghost use Rattle.wire_read.specs.Means.{command_of, entries_of};
-ghost use Rattle.memory.specs.Layout.{room_in};
+ghost use Rattle.state.specs.Memory.{Becomes, limits_of, room_in, state_of};
 ghost use Rattle.memory.specs.Fits.{EntryFits};
-ghost use Rattle.state.specs.Held.{Held, Becomes, limits_of, state_of};
 ghost use Rattle.entries.specs.Steps.{CanTake, next_entry, pushed, replaced};
 
 use raft_log::append::push;
 use raft_log::replace::replace;
 use raft_log::row::{Numbers, ROW};
-use state::head;
 use state::layout::LENGTH;
-use state::limits::{limits, log_at};
 use wire_read::parts::{Command, Entries};
+use state::memory::Memory;
 
 // One entry more at the log's end.
-pub fn push_entry(mem: &mut [u64], numbers: Numbers, command: Command<'_>)
-    requires held { Held mem.old }
+pub fn push_entry(mem: &mut Memory<'_>, numbers: Numbers, command: Command<'_>)
     requires room { last_index (state_of mem.old).log < room_in mem.old }
     requires good { EntryFits (limits_of mem.old) (next_entry (state_of mem.old) numbers (command_of command)) }
     ensures { Becomes mem.old mem.new
         (pushed (state_of mem.old) numbers (command_of command.entry)) }
 {
-    let at = log_at(mem);
-    let end = at + ROW * limits(mem).room as usize;
-    let len = head::last_index(mem);
-    push(&mut mem[at..end], len as usize, numbers, command);
-    mem[LENGTH] = len + 1;
+    let at = mem.log_at();
+    let end = at + ROW * mem.limits().room as usize;
+    let len = mem.last_index();
+    let words = &mut *mem.words;
+    push(&mut words[at..end], len as usize, numbers, command);
+    words[LENGTH] = len + 1;
 }
 
 // All after an index that the log has, or after 0, is replaced by the entries of a message.
-pub fn replace_entries(mem: &mut [u64], before: u64, entries: Entries<'_>)
-    requires held { Held mem.old }
+pub fn replace_entries(mem: &mut Memory<'_>, before: u64, entries: Entries<'_>)
     requires within { before ≤ last_index (state_of mem.old).log }
     requires can { CanTake mem.old before entries }
     ensures { Becomes mem.old mem.new
         (replaced (state_of mem.old) before (entries_of entries.entry)) }
 {
-    let at = log_at(mem);
-    let end = at + ROW * limits(mem).room as usize;
-    let len = head::last_index(mem);
-    replace(&mut mem[at..end], len as usize, before as usize, entries);
-    mem[LENGTH] = before + entries.count;
+    let at = mem.log_at();
+    let end = at + ROW * mem.limits().room as usize;
+    let len = mem.last_index();
+    let words = &mut *mem.words;
+    replace(&mut words[at..end], len as usize, before as usize, entries);
+    words[LENGTH] = before + entries.count;
 }

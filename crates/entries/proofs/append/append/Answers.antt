@@ -2,7 +2,7 @@ use Rattle.std.proofs.Common.{◌≡◌, ℕ, true, false, List, [], ◌∷◌, 
 use Rattle.servers.specs.Server.{Entry, Letter, Message, appended, State, has_new, appends, append_reply, advanced, following}
 use Rattle.wire_read.specs.Means.{entries_of}
 use Rattle.servers.proofs.Tests.{pick_true, pick_false}
-use Rattle.state.specs.Held.{state_of}
+use Rattle.state.specs.Memory.{state_of}
 use Rattle.state.proofs.Laws.{stays, next_then, said}
 use Rattle.entries.specs.Steps.{extended_if, accepts, accepted}
 use Rattle.entries.specs.declared.append.Last.{Last}
@@ -16,9 +16,8 @@ pub extend_by_new-requires : goal.extend_by_new-requires
 extend_by_new-requires c =
     let s : State = state_of c.args.mem.now in
     record {
-      held = c.requires.held;
       low = c.requires.commit;
-      within = before_low s c.args.term c.args.before c.args.before_term c.requires.held.fits.1.row
+      within = before_low s c.args.term c.args.before c.args.before_term c.args.mem.now.held.fits.1.row
           (sym c.accepts-taken.ensures ∙ c.if-not-taken.false);
       can = c.requires.can;
       last = c.last_of-last.ensures;
@@ -27,18 +26,18 @@ extend_by_new-requires c =
 -- nothing is changed where they are not taken
 pub returns-then-not-taken-clause-state : goal.returns-then-not-taken-clause-state
 returns-then-not-taken-clause-state c =
-    let m : List ℕ = c.args.mem.now in
+    let m = c.args.mem.now in
     let s : State = state_of m in
     let es : List Entry = entries_of c.args.entries in
     let no : accepts s c.args.term c.args.before c.args.before_term ≡ false = sym c.accepts-taken.ensures ∙ c.if-not-taken.true in
     let same : appends s c.args.from c.args.term c.args.before c.args.before_term es c.args.commit ≡ s =
-    appends_is s c.args.from c.args.term c.args.before c.args.before_term es c.args.commit c.requires.held.fits.1.row
+    appends_is s c.args.from c.args.term c.args.before c.args.before_term es c.args.commit c.args.mem.now.held.fits.1.row
     ∙ pick_false _ (accepted s c.args.from c.args.term c.args.before es c.args.commit) s no in
-    said m m _ _ (sym same) (stays m c.requires.held)
+    said m m _ _ (sym same) (stays m)
 
 pub returns : goal.returns
 returns c =
-    let m : List ℕ = c.args.mem.now in
+    let m = c.args.mem.now in
     let s : State = state_of m in
     let es : List Entry = entries_of c.args.entries in
     let h : ℕ = c.args.from in
@@ -46,11 +45,11 @@ returns c =
     let i : ℕ = c.args.before in
     let u : ℕ = c.args.before_term in
     let k : ℕ = c.args.commit in
-    let m₁ : List ℕ = c.extend_by_new.new.mem in
-    let m₂ : List ℕ = c.follow_leader.new.mem in
+    let m₁ = c.extend_by_new.new.mem in
+    let m₂ = c.follow_leader.new.mem in
     let yes : accepts s t i u ≡ true = sym c.accepts-taken.ensures ∙ c.if-not-taken.false in
     let whole : following h (advanced t (extended_if (has_new s es) s i es k)) ≡ appends s h t i u es k =
-    taken_is s h t i es k ∙ sym (appends_is s h t i u es k c.requires.held.fits.1.row ∙ pick_true _ _ _ yes) in
+    taken_is s h t i es k ∙ sym (appends_is s h t i u es k c.args.mem.now.held.fits.1.row ∙ pick_true _ _ _ yes) in
     let says : append_reply s t i u es ≡ appended t c.last_of-last.result.index true =
     reply_is s t i u es ∙ (pick_true _ _ _ yes ∙ ap (λ (x : Last). appended t x.index true) (sym c.last_of-last.ensures)) in
     record {

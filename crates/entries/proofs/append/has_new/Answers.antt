@@ -1,6 +1,6 @@
 use Rattle.std.proofs.Common.{sym, ap}
 use Rattle.wire_read.specs.Means.{entries_of}
-use Rattle.state.specs.Held.{state_of}
+use Rattle.state.specs.Memory.{state_of}
 use Rattle.entries.specs.declared.append.Last.{Last}
 use Rattle.entries.proofs.append.has_new.Goals as goal
 use Rattle.entries.proofs.Logs.{count_is}

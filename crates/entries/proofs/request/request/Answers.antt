@@ -4,7 +4,7 @@ use Rattle.servers.specs.Server.{Limits, State, last_index, set_at, with_send, w
 use Rattle.servers.specs.declared.limits.Limits as code
 use Rattle.raft_log.specs.declared.row.Numbers.{Numbers}
 use Rattle.wire_read.specs.Means.{command_of}
-use Rattle.state.specs.Held.{limits_of, state_of}
+use Rattle.state.specs.Memory.{limits_of, state_of}
 use Rattle.state.specs.States.{with_matches}
 use Rattle.state.proofs.Laws.{then_to}
 use Rattle.entries.specs.Steps.{pushed}
@@ -20,8 +20,8 @@ requested l s c k x t h i e p q = rw (e, p, q) refl
 
 pub returns : goal.returns
 returns c =
-    let m : List ℕ = c.args.mem.now in
-    let m₂ : List ℕ = c.set_match.new.mem in
+    let m = c.args.mem.now in
+    let m₂ = c.set_match.new.self in
     let s : State = state_of m in
     let h : ℕ = c.limits-me.result.me in
     let t : ℕ = c.term.result in
@@ -30,7 +30,7 @@ returns c =
     let more : i ≡ suc (last_index s.log) = omega (arith, c.last_index-last.ensures.last) in
     let n : Numbers = record { term = t; server = h; client = c.args.client; number = c.args.id } in
     let written : State = pushed s n x in
-    then_to (with_send true) m m₂ c.set_send.new.mem (own_match h i written) (with_request (limits_of m) c.args.client c.args.id x s)
+    then_to (with_send true) m m₂ c.set_send.new.self (own_match h i written) (with_request (limits_of m) c.args.client c.args.id x s)
     (then_to (own_match h i) m c.push_entry.new.mem m₂ written (own_match h i written) c.push_entry.ensures c.set_match.ensures refl)
     c.set_send.ensures
     (requested (limits_of m) s c.args.client c.args.id x t h i c.term.ensures.value
