@@ -37,11 +37,8 @@ pub fn term(log: &[LogRow], index: usize) -> u64
 pub fn term_at(log: &[LogRow], index: u64) -> Option<u64>
     ensures { result ≡ term_in (entry_at index (log_of log.now)) }
 {
-    if index == 0 || index > log.len() as u64 {
-        None
-    } else {
-        Some(term(log, index as usize))
-    }
+    let row = log.get((index as usize).checked_sub(1)?)?;
+    Some(row[0])
 }
 
 // The term at an index, and 0 where there is none: what a leader says of the entry before those that it sends.

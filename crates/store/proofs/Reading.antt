@@ -30,6 +30,10 @@ index_word r p h = get_or-take (capacity r) (drop 2 r) p 0 h ∙ get_or-drop 2 r
 pub index_below : (r : List ℕ) (p : ℕ) → Held r → p < capacity r → get_or (index_of r) p 0 < capacity r
 index_below r p o h = row_below (capacity r) (count r) (index_of r) (rows_of r) o.parts p h
 
+-- a number in the index, as a word of the region
+pub word_below : (r : List ℕ) (p : ℕ) → Held r → p < capacity r → get_or r (2 + p) 0 < capacity r
+word_below r p o h = let e = index_word r p h in let b = index_below r p o h in omega arith
+
 -- the p-th item
 abbrev pub Nth : List ℕ → ℕ → Item
 Nth r p = get_or (items_of r) p blank

@@ -47,6 +47,7 @@ pub fn insert(region: &mut [u64], p: usize, name: &[u64], text: &[u64])
 }
 
 // The p-th item out: its row is free, and its words stay.
+#[tactic(auto, using(crate::proofs::Reading::held_long))]
 pub fn remove_at(region: &mut [u64], p: usize)
     requires held { Held region.old }
     requires within { p < count region.old }

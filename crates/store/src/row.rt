@@ -30,6 +30,7 @@ pub fn room(region: &[u64]) -> usize
 }
 
 // Where the row begins whose number is at p in the index.
+#[tactic(auto, using(crate::proofs::Reading::held_long, crate::proofs::Reading::word_below))]
 pub fn row_at(region: &[u64], p: usize) -> usize
     requires held { Held region.now }
     requires within { p < capacity region.now }

@@ -12,16 +12,10 @@ use Rattle.entries.proofs.Taking.{appends_is, reply_is, before_low, taken_is}
 abbrev letter : ℕ → Message → Letter
 letter h x = record { to = h; message = x }
 
-pub extend_by_new-requires : goal.extend_by_new-requires
-extend_by_new-requires c =
-    let s : State = state_of c.args.mem.now in
-    record {
-      low = c.requires.commit;
-      within = before_low s c.args.term c.args.before c.args.before_term c.args.mem.now.held.fits.1.row
-          (sym c.accepts-taken.ensures ∙ c.if-not-taken.false);
-      can = c.requires.can;
-      last = c.last_of-last.ensures;
-    }
+pub extend_by_new-requires-clause-within : goal.extend_by_new-requires-clause-within
+extend_by_new-requires-clause-within c =
+    before_low (state_of c.args.mem.now) c.args.term c.args.before c.args.before_term c.args.mem.now.held.fits.1.row
+    (sym c.accepts-taken.ensures ∙ c.if-not-taken.false)
 
 -- nothing is changed where they are not taken
 pub returns-then-not-taken-clause-state : goal.returns-then-not-taken-clause-state

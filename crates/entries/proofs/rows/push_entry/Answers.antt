@@ -4,16 +4,9 @@ use Rattle.servers.specs.declared.limits.Limits.{Limits}
 use Rattle.wire_read.specs.Means.{command_of}
 use Rattle.memory.specs.Layout.{room_in}
 use Rattle.state.specs.Held.{state_of}
-use Rattle.state.proofs.Laws.{long, of_words}
+use Rattle.state.proofs.Laws.{of_words}
 use Rattle.entries.proofs.rows.push_entry.Goals as goal
 use Rattle.entries.proofs.Logs.{lent, last_long, push_written}
-
-pub slice_bounds-push-end : goal.slice_bounds-push-end
-slice_bounds-push-end c =
-    let z = long c.args.mem.now.words.now c.args.mem.now.held in
-    let at = c.log_at-at.ensures in
-    let room = ap (λ (x : Limits). x.room) c.limits.ensures in
-    omega arith
 
 pub invariant_of-mem : goal.invariant_of-mem
 invariant_of-mem c =

@@ -4,16 +4,9 @@ use Rattle.servers.specs.declared.limits.Limits.{Limits}
 use Rattle.wire_read.specs.Means.{entries_of}
 use Rattle.memory.specs.Layout.{room_in}
 use Rattle.state.specs.Held.{state_of}
-use Rattle.state.proofs.Laws.{long, of_words}
+use Rattle.state.proofs.Laws.{of_words}
 use Rattle.entries.proofs.rows.replace_entries.Goals as goal
 use Rattle.entries.proofs.Logs.{count_is, lent, last_long, replace_written}
-
-pub slice_bounds-replace-end : goal.slice_bounds-replace-end
-slice_bounds-replace-end c =
-    let z = long c.args.mem.now.words.now c.args.mem.now.held in
-    let at = c.log_at-at.ensures in
-    let room = ap (λ (x : Limits). x.room) c.limits.ensures in
-    omega arith
 
 pub invariant_of-mem : goal.invariant_of-mem
 invariant_of-mem c =

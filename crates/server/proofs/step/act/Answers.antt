@@ -4,16 +4,8 @@ use Rattle.checks.specs.Outcome.{Checked}
 use Rattle.checks.proofs.Handing.{turned_refused}
 use Rattle.state.specs.Held.{limits_of, state_of}
 use Rattle.server.proofs.Answering.{turned_away}
-use Rattle.server.proofs.Steps.{checked_by, ready, answered_as}
+use Rattle.server.proofs.Steps.{checked_by, answered_as}
 use Rattle.server.proofs.step.act.Goals as goal
-
-pub take-requires : goal.take-requires
-take-requires c =
-    let m : List ℕ = c.args.mem.now in
-    let k : Checked (limits_of m) c.read_event-event.result (Ok c.in-Ok.passed) =
-    checked_by m c.limits-l.ensures c.in-Ok.is c.check.ensures in
-    let r = ready m k c.read_event-event.ensures.value c.requires.readable c.requires.room in
-    record { held = c.requires.held; checked = r.checked; readable = r.reads; room = r.room }
 
 pub returns-in-Ok : goal.returns-in-Ok
 returns-in-Ok c =

@@ -3,24 +3,18 @@ use Rattle.servers.specs.Server.{timeout}
 use Rattle.state.specs.Held.{limits_of, state_of}
 use Rattle.server.specs.First.{first_of}
 use Rattle.server.proofs.Answering.{Taken, taken, room_taken}
-use Rattle.server.proofs.Events.{timeout_goes_on, timeout_letters}
+use Rattle.server.proofs.Events.{timeout_letters}
 use Rattle.server.proofs.votes.go_on.Goals as goal
 
-pub time_is_up-leads-requires : goal.time_is_up-leads-requires
-time_is_up-leads-requires c = record { held = c.requires.held; more = timeout_goes_on (limits_of c.args.mem.now) (state_of c.args.mem.now) refl c.requires.taken }
-
-pub finish-requires : goal.finish-requires
-finish-requires c =
+pub finish-requires-clause-room : goal.finish-requires-clause-room
+finish-requires-clause-room c =
     let m : List ℕ = c.args.mem.now in
     let m₁ : List ℕ = c.time_is_up-leads.new.mem in
     let b = c.time_is_up-leads.ensures.state in
     let x = c.asks_unless-first.result in
     let e = timeout_letters m m₁ c.time_is_up-leads.result x b c.time_is_up-leads.ensures.leads c.asks_unless-first.ensures in
     let t : Taken (limits_of m) (state_of m) timeout = record { free = c.requires.taken; goes_on = refl; told = refl } in
-    record {
-      held = b.held;
-      room = room_taken m m₁ timeout (first_of (limits_of m₁) (state_of m₁) x) (length c.args.out.now) t b e c.requires.room;
-    }
+    room_taken m m₁ timeout (first_of (limits_of m₁) (state_of m₁) x) (length c.args.out.now) t b e c.requires.room
 
 pub returns : goal.returns
 returns c =

@@ -1,17 +1,8 @@
-use Rattle.std.proofs.Common.{ℕ, List, [], length, refl}
+use Rattle.std.proofs.Common.{ℕ, List, [], refl}
 use Rattle.servers.specs.Server.{Event, comes, appended}
 use Rattle.state.specs.Held.{limits_of, state_of}
-use Rattle.server.proofs.Answering.{Taken, taken, room_taken}
+use Rattle.server.proofs.Answering.{Taken, taken}
 use Rattle.server.proofs.votes.on_appended.Goals as goal
-
-pub finish-requires : goal.finish-requires
-finish-requires c =
-    let m : List ℕ = c.args.mem.now in
-    let m₁ : List ℕ = c.appended_comes.new.mem in
-    let b = c.appended_comes.ensures in
-    let ev : Event = comes c.args.from (appended c.args.term c.args.index c.args.ok) in
-    let t : Taken (limits_of m) (state_of m) ev = record { free = c.requires.taken; goes_on = refl; told = refl } in
-    record { held = b.held; room = room_taken m m₁ ev [] (length c.args.out.now) t b refl c.requires.room }
 
 pub returns : goal.returns
 returns c =

@@ -17,9 +17,6 @@ returns-then-full c =
     turned_away m c.args.out.now c.refuse.new.out ev LogFull c.refuse.result c.requires.held e refl
     c.refuse.ensures.answer c.refuse.ensures.bytes
 
-pub decline-requires : goal.decline-requires
-decline-requires c = record { held = c.requires.held; room = c.requires.room.told }
-
 pub returns-then-not-leads : goal.returns-then-not-leads
 returns-then-not-leads c =
     let m : List ℕ = c.args.mem.now in
@@ -29,17 +26,3 @@ returns-then-not-leads c =
     request_declined m c.args.out.now c.decline.new.mem c.decline.new.out c.args.client c.args.id x
     c.decline.result e (sym c.is_leader-leads.ensures ∙ c.if-not-leads.true)
     c.decline.ensures.state c.decline.ensures.answer c.decline.ensures.bytes
-
-pub take_request-requires : goal.take_request-requires
-take_request-requires c =
-    let m : List ℕ = c.args.mem.now in
-    let x = command_of c.args.command in
-    let e = c.requires.passed ∙ request_free (limits_of m) (state_of m) c.args.client c.args.id x
-    (sym c.is_full-full.ensures ∙ c.if-full.false) in
-    record {
-      held = c.requires.held;
-      leads = sym c.is_leader-leads.ensures ∙ c.if-not-leads.false;
-      readable = c.requires.readable;
-      taken = e;
-      room = c.requires.room;
-    }

@@ -1,13 +1,6 @@
 use Rattle.std.proofs.Common.{ℕ, ◌+◌, ◌-◌, get_or, arith}
-use Rattle.store.proofs.Reading.{held_long}
 use Rattle.store.proofs.Writing.{remove_is}
 use Rattle.store.proofs.change.remove_at.Goals as goal
-
-pub overflow_add-n : goal.overflow_add-n
-overflow_add-n c = let l = held_long c.args.region.now c.requires.held in omega arith
-
-pub slice_bounds-close_place-end : goal.slice_bounds-close_place-end
-slice_bounds-close_place-end c = let l = held_long c.args.region.now c.requires.held in omega arith
 
 pub returns : goal.returns
 returns c =
