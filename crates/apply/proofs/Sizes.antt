@@ -8,13 +8,13 @@ use Rattle.wire.specs.Write.{write_number, write_perhaps, write_said, write_said
 use Rattle.wire_write.proofs.Texts.{length_number, length_text}
 use Rattle.memory.specs.Words.{GoodCached}
 use Rattle.memory.specs.Fits.{EntryFits, Mid}
-use Rattle.memory.specs.Layout.{room_in, region_in}
 use Rattle.servers.proofs.Tests.{pick_by}
 use Rattle.memory.proofs.Each.{all_nth, all_due}
 use Rattle.memory.proofs.Logs.{due_few}
 use Rattle.memory.proofs.Stored.{reply_good}
 use Rattle.memory.proofs.Doing.{mid_one}
-use Rattle.state.specs.Held.{Held, limits_of, state_of}
+use Rattle.state.specs.Memory.{limits_of, region_in, room_in, state_of}
+use Rattle.state.specs.declared.memory.Memory.{Memory}
 use Rattle.apply.specs.InMemory.{all_told}
 use Rattle.apply.specs.Applied.{session, region_one}
 use Rattle.apply.proofs.Telling.{tells, one_said}
@@ -69,10 +69,10 @@ all_small l n s r (e ∷ es) g h f =
     let b = length-append (write_saids (tell_one l s e)) (write_saids (tell_all l (do_one s e) es)) in
     omega arith
 
-pub told_fits : (m : List ℕ) → Held m → length (write_saids (all_told m)) ≤ 546 * room_in m
-told_fits m h =
+pub told_fits : (m : Memory) → length (write_saids (all_told m)) ≤ 546 * room_in m
+told_fits m =
     let s : State = state_of m in
-    let f = h.fits in
+    let f = m.held.fits in
     let k = due_few s.applied s.commit s.log f.1.row in
     let commit = f.1.commit in
     let applied = f.1.applied in

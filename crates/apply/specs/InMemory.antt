@@ -2,20 +2,20 @@
 use Rattle.std.specs.Prelude.{ℕ, List}
 use Rattle.servers.specs.Server.{Entry, Said, tell_one, tell_all, dues}
 use Rattle.raft_log.specs.Places.{entry_in}
-use Rattle.memory.specs.Layout.{log_part, region_in}
+use Rattle.state.specs.Memory.{limits_of, log_part, region_in, state_of}
+use Rattle.state.specs.declared.memory.Memory.{Memory}
 use Rattle.memory.specs.Program.{region_all}
-use Rattle.state.specs.Held.{limits_of, state_of}
 
 -- the entry at an index of the log, and what this server tells of it
-abbrev pub entry_of : List ℕ → ℕ → Entry
+abbrev pub entry_of : Memory → ℕ → Entry
 entry_of m i = entry_in i (log_part m)
 
-abbrev pub told_of : List ℕ → ℕ → List Said
+abbrev pub told_of : Memory → ℕ → List Said
 told_of m i = tell_one (limits_of m) (state_of m) (entry_of m i)
 
 -- what this server tells of all that is due, and the store's region after it
-abbrev pub all_told : List ℕ → List Said
+abbrev pub all_told : Memory → List Said
 all_told m = tell_all (limits_of m) (state_of m) (dues (state_of m))
 
-abbrev pub region_reached : List ℕ → List ℕ
+abbrev pub region_reached : Memory → List ℕ
 region_reached m = region_all (state_of m) (dues (state_of m)) (region_in m)

@@ -3,14 +3,13 @@ ghost use Rattle.std.specs.Prelude.{◌≡◌, ◌+◌, ◌-◌, ◌<◌, ◌≤
 ghost use Rattle.servers.specs.Server.{at_least, with_applied, finished};
 ghost use Rattle.wire.specs.Write.{write_saids};
 ghost use Rattle.wire_write.specs.Put.{Writes};
-ghost use Rattle.memory.specs.Layout.{region_in};
-ghost use Rattle.state.specs.Held.{Held, Turns, Becomes, state_of};
+ghost use Rattle.state.specs.Memory.{Becomes, Turns, region_in, state_of};
 ghost use Rattle.apply.specs.Applied.{next_one, region_one};
 ghost use Rattle.apply.specs.InMemory.{entry_of, told_of, all_told, region_reached};
 
 use crate::one::do_one;
 use crate::tell::tell;
-use state::head;
+use state::memory::Memory;
 
 // How many clients were told, and the place after what they are told.
 #[derive(Clone, Copy)]
@@ -20,18 +19,16 @@ pub struct Told {
 }
 
 // Up to which index entries are due: as far as the log is committed, or to its end.
-fn due_to(mem: &[u64]) -> usize
-    requires held { Held mem.now }
+fn due_to(mem: &Memory<'_>) -> usize
     ensures { result ≡ min (state_of mem.now).commit (length (state_of mem.now).log) }
 {
-    let commit = head::commit(mem);
-    let last = head::last_index(mem);
+    let commit = mem.commit();
+    let last = mem.last_index();
     commit.min(last) as usize
 }
 
 // The next entry. The applied index is moved first, so that there is room for what its command adds.
-fn apply_next(mem: &mut [u64], index: usize, out: &mut [u8], told: Told) -> Told
-    requires held { Held mem.old }
+fn apply_next(mem: &mut Memory<'_>, index: usize, out: &mut [u8], told: Told) -> Told
     requires next { index ≡ (state_of mem.old).applied + 1 }
     requires there { index ≤ length (state_of mem.old).log }
     requires few { told.count ≤ (state_of mem.old).applied }
@@ -43,7 +40,7 @@ fn apply_next(mem: &mut [u64], index: usize, out: &mut [u8], told: Told) -> Told
         out.old out.new result.next }
     ensures count { result.count ≡ told.count + length (told_of mem.old index) }
 {
-    head::set_applied(mem, index as u64);
+    mem.set_applied(index as u64);
     match do_one(mem, index) {
         Some(client) => Told {
             count: told.count + 1,
@@ -54,19 +51,17 @@ fn apply_next(mem: &mut [u64], index: usize, out: &mut [u8], told: Told) -> Told
 }
 
 // What is committed counts as applied, also past the end of the log.
-fn finish(mem: &mut [u64])
-    requires held { Held mem.old }
+fn finish(mem: &mut Memory<'_>)
     ensures { Becomes mem.old mem.new
         (with_applied (at_least (state_of mem.old).applied (state_of mem.old).commit)
         (state_of mem.old)) }
 {
-    let done = head::applied(mem).max(head::commit(mem));
-    head::set_applied(mem, done);
+    let done = mem.applied().max(mem.commit());
+    mem.set_applied(done);
 }
 
 // The bytes of what clients are told go to `out` at a place; nothing else of it changes.
-pub fn apply_all(mem: &mut [u64], out: &mut [u8], at: usize) -> Told
-    requires held { Held mem.old }
+pub fn apply_all(mem: &mut Memory<'_>, out: &mut [u8], at: usize) -> Told
     requires room { at + length (write_saids (all_told mem.old)) ≤ length out.old }
     ensures turns { Turns mem.old mem.new
         (finished (state_of mem.old)) (region_reached mem.old) }
@@ -74,7 +69,7 @@ pub fn apply_all(mem: &mut [u64], out: &mut [u8], at: usize) -> Told
     ensures count { result.count ≡ length (all_told mem.old) }
 {
     let to = due_to(mem);
-    let applied = head::applied(mem) as usize;
+    let applied = mem.applied() as usize;
     let mut told = Told { count: 0, next: at };
     for done in applied..to {
         told = apply_next(mem, done + 1, out, told);

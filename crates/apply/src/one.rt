@@ -7,22 +7,19 @@ ghost use Rattle.texts.specs.Commands.{command_in};
 ghost use Rattle.store.specs.Region.{region_do};
 ghost use Rattle.store.specs.Calls.{OfCommand, OfPerhaps};
 ghost use Rattle.raft_log.specs.Numbers.{numbers_of};
-ghost use Rattle.memory.specs.Layout.{clients_in, region_in};
-ghost use Rattle.state.specs.Held.{Held, Turns, state_of};
+ghost use Rattle.state.specs.Memory.{Turns, clients_in, region_in, state_of};
 ghost use Rattle.apply.specs.Applied.{reply_in, with_store_done, did, region_one, told_client};
 ghost use Rattle.apply.specs.InMemory.{entry_of, told_of};
 
 use crate::session::{is_again, is_new, keep, last_done};
 use raft_log::find;
 use raft_log::row::Numbers;
-use state::limits::{limits, store_at};
-use state::parts::log;
 use store::commands::do_command;
 use store::reply::Reply;
+use state::memory::Memory;
 
 // A command on the store in memory. The applied index counts it already, so there is room for one item more.
-fn do_in_store(mem: &mut [u64], command: &[u64]) -> Reply
-    requires held { Held mem.old }
+fn do_in_store(mem: &mut Memory<'_>, command: &[u64]) -> Reply
     requires few { length (state_of mem.old).store < (state_of mem.old).applied }
     requires command { OfCommand command.now }
     ensures turns { Turns mem.old mem.new
@@ -32,25 +29,23 @@ fn do_in_store(mem: &mut [u64], command: &[u64]) -> Reply
     ensures before { OfPerhaps 32 result.before }
     ensures reply { reply_in result.after result.before ≡ reply (command_in command.now) (state_of mem.old).store }
 {
-    let at = store_at(mem);
-    do_command(&mut mem[at..], command)
+    let at = mem.store_at();
+    do_command(&mut mem.words[at..], command)
 }
 
 // The words of the command at an index that the log has.
-fn command_at(mem: &[u64], index: usize) -> &[u64]
-    requires held { Held mem.now }
+fn command_at<'a>(mem: &'a Memory<'_>, index: usize) -> &'a [u64]
     requires some { 0 < index }
     requires there { index ≤ length (state_of mem.now).log }
     ensures command { OfCommand result.now }
     ensures long { length result.now ≡ 76 }
     ensures value { command_in result.now ≡ (entry_of mem.now index).command }
 {
-    find::command_at(log(mem), index)
+    find::command_at(mem.log(), index)
 }
 
 // Does the command of an entry, and keeps its reply.
-fn do_new(mem: &mut [u64], index: usize, client: usize, number: u64)
-    requires held { Held mem.old }
+fn do_new(mem: &mut Memory<'_>, index: usize, client: usize, number: u64)
     requires some { 0 < index }
     requires there { index ≤ length (state_of mem.old).log }
     requires few { length (state_of mem.old).store < (state_of mem.old).applied }
@@ -73,19 +68,17 @@ fn client_to_tell(me: u64, numbers: Numbers, new: bool, again: bool) -> Option<u
 }
 
 // The numbers of the entry at an index that the log has.
-fn numbers_at(mem: &[u64], index: usize) -> Numbers
-    requires held { Held mem.now }
+fn numbers_at(mem: &Memory<'_>, index: usize) -> Numbers
     requires some { 0 < index }
     requires there { index ≤ length (state_of mem.now).log }
     ensures value { result ≡ numbers_of (entry_of mem.now index) }
     ensures client { result.client < clients_in mem.now }
 {
-    find::numbers_at(log(mem), index)
+    find::numbers_at(mem.log(), index)
 }
 
 // Applies the entry at an index that the log has, and says which client is to be told.
-pub fn do_one(mem: &mut [u64], index: usize) -> Option<u64>
-    requires held { Held mem.old }
+pub fn do_one(mem: &mut Memory<'_>, index: usize) -> Option<u64>
     requires some { 0 < index }
     requires there { index ≤ length (state_of mem.old).log }
     requires few { length (state_of mem.old).store < (state_of mem.old).applied }
@@ -99,7 +92,7 @@ pub fn do_one(mem: &mut [u64], index: usize) -> Option<u64>
     let last = last_done(mem, client);
     let new = is_new(last, numbers.number);
     let again = is_again(last, numbers.number);
-    let told = client_to_tell(limits(mem).me, numbers, new, again);
+    let told = client_to_tell(mem.limits().me, numbers, new, again);
     if new {
         do_new(mem, index, client, numbers.number);
     }

@@ -1,24 +1,22 @@
 // A client's session: whether any command of it was done, the last number done, and its reply, in 68 words.
 ghost use Rattle.std.specs.Prelude.{◌≡◌, ◌+◌, ◌-◌, ◌<◌, not, ◌&&◌, ◌||◌, ◌∷◌, ◌++◌, length, ◌==◌, nat_lt};
 ghost use Rattle.servers.specs.Server.{Cached};
-ghost use Rattle.memory.specs.Layout.{clients_in};
+ghost use Rattle.state.specs.Memory.{Becomes, clients_in, state_of};
 ghost use Rattle.store.specs.Calls.{OfPerhaps};
-ghost use Rattle.state.specs.Held.{Held, Becomes, state_of};
 ghost use Rattle.apply.specs.Applied.{session, answered, reply_in, with_session};
 ghost use Rattle.apply.specs.Means.{last_of};
 
 use state::layout::SESSION;
-use state::parts::{session_at, session_part};
 use store::reply::Reply;
 use texts::copy::copy_text;
+use state::memory::Memory;
 
 // The last number done for a client, if any was.
-pub fn last_done(mem: &[u64], client: usize) -> Option<u64>
-    requires held { Held mem.now }
+pub fn last_done(mem: &Memory<'_>, client: usize) -> Option<u64>
     requires there { client < clients_in mem.now }
     ensures { result ≡ last_of (session (state_of mem.now) client) }
 {
-    let kept = session_part(mem, client);
+    let kept = mem.session(client);
     (kept[0] == 1).then_some(kept[1])
 }
 
@@ -47,14 +45,13 @@ fn pack_session(row: &mut [u64], number: u64, reply: &Reply)
 }
 
 // Keeps the number of the command that was done, and its reply: what there is after it and was before.
-pub fn keep(mem: &mut [u64], client: usize, number: u64, reply: &Reply)
-    requires held { Held mem.old }
+pub fn keep(mem: &mut Memory<'_>, client: usize, number: u64, reply: &Reply)
     requires there { client < clients_in mem.old }
     requires after { OfPerhaps 32 reply.now.after }
     requires before { OfPerhaps 32 reply.now.before }
     ensures { Becomes mem.old mem.new
         (with_session client (answered number (reply_in reply.now.after reply.now.before)) (state_of mem.old)) }
 {
-    let at = session_at(mem, client);
-    pack_session(&mut mem[at..at + SESSION], number, reply);
+    let at = mem.session_at(client);
+    pack_session(&mut mem.words[at..at + SESSION], number, reply);
 }

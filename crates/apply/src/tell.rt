@@ -3,13 +3,12 @@ ghost use Rattle.std.specs.Prelude.{◌≡◌, ◌+◌, ◌-◌, ◌<◌, ◌≤
 ghost use Rattle.wire.specs.Write.{write_said};
 ghost use Rattle.wire_write.specs.Put.{Writes};
 ghost use Rattle.memory.specs.Words.{cached_in};
-ghost use Rattle.memory.specs.Layout.{clients_in};
-ghost use Rattle.state.specs.Held.{Held, state_of};
+ghost use Rattle.state.specs.Memory.{clients_in, state_of};
 ghost use Rattle.apply.specs.Applied.{session, kept_for};
 
-use state::parts::session_part;
 use wire_write::put::write_number;
 use wire_write::words::write_perhaps_in;
+use state::memory::Memory;
 
 // What there is after the command goes first, then what was before.
 fn write_session(out: &mut [u8], at: usize, client: u64, kept: &[u64]) -> usize
@@ -25,12 +24,11 @@ fn write_session(out: &mut [u8], at: usize, client: u64, kept: &[u64]) -> usize
     write_perhaps_in(out, before, &kept[35..68])
 }
 
-pub fn tell(mem: &[u64], client: usize, out: &mut [u8], at: usize) -> usize
-    requires held { Held mem.now }
+pub fn tell(mem: &Memory<'_>, client: usize, out: &mut [u8], at: usize) -> usize
     requires there { client < clients_in mem.now }
     requires room { at + length (write_said (kept_for client (session (state_of mem.now) client))) ≤ length out.old }
     ensures { Writes at (write_said (kept_for client (session (state_of mem.now) client)))
         out.old out.new result }
 {
-    write_session(out, at, client as u64, session_part(mem, client))
+    write_session(out, at, client as u64, mem.session(client))
 }

@@ -10,8 +10,9 @@ use Rattle.raft_log.specs.Bytes.{Sound}
 use Rattle.raft_log.proofs.Entries.{above_bytes, above_more, above_end}
 use Rattle.raft_log.proofs.Sizes.{entry_long, entry_most}
 use Rattle.raft_log.proofs.Written.{length_part}
-use Rattle.memory.specs.Layout.{servers_in, me_in, room_in, log_at, log_part}
-use Rattle.state.specs.Held.{Held, limits_of, state_of}
+use Rattle.memory.specs.Layout.{log_at}
+use Rattle.state.specs.Memory.{limits_of, log_part, me_in, room_in, servers_in, state_of}
+use Rattle.state.specs.declared.memory.Memory.{Memory}
 use Rattle.state.proofs.Laws.{long, long_log}
 use Rattle.sending.specs.Letters.{post, asks, asks_to_all, entries_to_all}
 use Rattle.sending.specs.declared.others.Sent.{Sent}
@@ -40,29 +41,29 @@ entries_most i (suc n) ws h s =
       | inr k ↦ let e = ap length (above_end i (suc n) ws k) in omega arith
     ]
 
-letter_most : (m : List ℕ) → Held m → (x : Sent) (h : ℕ) → length (post h (message_to x (state_of m) h)) ≤ letter_size (limits_of m)
-letter_most m held Ask h = let p = length_post h (asks (state_of m)) in let a = length_ask_message (state_of m) in omega arith
-letter_most m held Entries h =
-    let n : ℕ = get_or m 10 0 in
+letter_most : (m : Memory) → (x : Sent) (h : ℕ) → length (post h (message_to x (state_of m) h)) ≤ letter_size (limits_of m)
+letter_most m Ask h = let p = length_post h (asks (state_of m)) in let a = length_ask_message (state_of m) in omega arith
+letter_most m Entries h =
+    let n : ℕ = get_or m.words.now 10 0 in
     let i : ℕ = next_for (state_of m) h - 1 in
     let p = length_post h (to_server (state_of m) h) in
     let log : List Entry = (state_of m).log in
     let a = length_append_message (state_of m).term i (term_of (entry_at i log)) (state_of m).commit (above i log) in
-    let few = long_log m held in
-    let all = long m held in
-    let w = length_part (log_at m) (80 * room_in m) m (omega arith) in
-    let e = entries_most i n (log_part m) (omega arith) (held_sound m held) in
+    let few = long_log m.words.now m.held in
+    let all = long m.words.now m.held in
+    let w = length_part (log_at m.words.now) (80 * room_in m) m.words.now (omega arith) in
+    let e = entries_most i n (log_part m) (omega arith) (held_sound m.words.now m.held) in
     omega arith
 
-all_fit : (m : List ℕ) → Held m → (x : Sent) → length (write_letters (letters_to_all x m)) ≤ (servers_in m - 1) * letter_size (limits_of m)
-all_fit m held x =
+all_fit : (m : Memory) → (x : Sent) → length (write_letters (letters_to_all x m)) ≤ (servers_in m - 1) * letter_size (limits_of m)
+all_fit m x =
     let f : (ℕ → Message) = message_to x (state_of m) in
-    let n = how_many (servers_in m) (me_in m) f held.good.me in
-    rw n (sent_most (servers_in m) (me_in m) (letter_size (limits_of m)) f (letter_most m held x))
+    let n = how_many (servers_in m) (me_in m) f m.held.good.me in
+    rw n (sent_most (servers_in m) (me_in m) (letter_size (limits_of m)) f (letter_most m x))
 
 -- the letters to all, by the limits
-pub asks_fit : (m : List ℕ) → Held m → length (write_letters (asks_to_all m)) ≤ (servers_in m - 1) * letter_size (limits_of m)
-asks_fit m held = all_fit m held Ask
+pub asks_fit : (m : Memory) → length (write_letters (asks_to_all m)) ≤ (servers_in m - 1) * letter_size (limits_of m)
+asks_fit m = all_fit m Ask
 
-pub entries_fit : (m : List ℕ) → Held m → length (write_letters (entries_to_all m)) ≤ (servers_in m - 1) * letter_size (limits_of m)
-entries_fit m held = all_fit m held Entries
+pub entries_fit : (m : Memory) → length (write_letters (entries_to_all m)) ≤ (servers_in m - 1) * letter_size (limits_of m)
+entries_fit m = all_fit m Entries

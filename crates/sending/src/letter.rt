@@ -4,17 +4,14 @@ ghost use Rattle.std.specs.Prelude.{◌≡◌, ℕ, ◌+◌, ◌-◌, ◌<◌, �
 ghost use Rattle.servers.specs.Server.{State, Message, vote, appended, next_for, to_server};
 ghost use Rattle.wire_write.specs.Heads.{letter_head};
 ghost use Rattle.wire_write.specs.Put.{Writes};
-ghost use Rattle.memory.specs.Layout.{servers_in};
-ghost use Rattle.state.specs.Held.{Held, state_of};
+ghost use Rattle.state.specs.Memory.{servers_in, state_of};
 ghost use Rattle.sending.specs.Letters.{post, asks};
 
 use crate::append::write_append;
 use raft_log::find::last_term;
-use state::head;
-use state::parts::log;
-use state::peers::next_for;
 use wire_write::answer::write_letter_head;
 use wire_write::message::{write_appended, write_ask_vote, write_vote};
+use state::memory::Memory;
 
 // How many bytes stand before the message.
 const HEAD: usize = 9;
@@ -59,38 +56,35 @@ pub fn write_appended_letter(
 }
 
 // RequestVote of who stands in its term.
-pub fn write_ask_letter(mem: &[u64], out: &mut [u8], at: usize, h: usize) -> usize
-    requires held { Held mem.now }
+pub fn write_ask_letter(mem: &Memory<'_>, out: &mut [u8], at: usize, h: usize) -> usize
     requires here { h < servers_in mem.now }
     requires room { at + length (post h (asks (state_of mem.now))) ≤ length out.old }
     ensures { Writes at (post h (asks (state_of mem.now))) out.old out.new result }
 {
-    let term = head::term(mem);
-    let len = head::last_index(mem);
-    let last = last_term(log(mem));
+    let term = mem.term();
+    let len = mem.last_index();
+    let last = last_term(mem.log());
     let end = write_ask_vote(out, at + HEAD, term, len, last);
     seal(out, at, h as u8, end)
 }
 
 // The index before the next one for a server: entries are sent from there on.
-fn sent_before(mem: &[u64], h: usize) -> u64
-    requires held { Held mem.now }
+fn sent_before(mem: &Memory<'_>, h: usize) -> u64
     requires here { h < servers_in mem.now }
     ensures { result ≡ next_for (state_of mem.now) h - 1 }
 {
-    next_for(mem, h).saturating_sub(1)
+    mem.next_for(h).saturating_sub(1)
 }
 
 // AppendEntries: the entries from a server's next index on.
-pub fn write_entries_letter(mem: &[u64], out: &mut [u8], at: usize, h: usize) -> usize
-    requires held { Held mem.now }
+pub fn write_entries_letter(mem: &Memory<'_>, out: &mut [u8], at: usize, h: usize) -> usize
     requires here { h < servers_in mem.now }
     requires room { at + length (post h (to_server (state_of mem.now) h)) ≤ length out.old }
     ensures { Writes at (post h (to_server (state_of mem.now) h)) out.old out.new result }
 {
     let before = sent_before(mem, h);
-    let term = head::term(mem);
-    let commit = head::commit(mem);
-    let end = write_append(out, at + HEAD, log(mem), term, before, commit);
+    let term = mem.term();
+    let commit = mem.commit();
+    let end = write_append(out, at + HEAD, mem.log(), term, before, commit);
     seal(out, at, h as u8, end)
 }

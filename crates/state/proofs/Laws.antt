@@ -54,12 +54,19 @@ written f g e m h k =
 pub of_words : (m m' : Memory) (s : State) → m'.words.ghost_name ≡ m.words.ghost_name → held.Becomes m.words.now m'.words.now s → Becomes m m' s
 of_words m m' s e b = record { same = e; state = b.state; limits = b.limits; region = b.region }
 
+pub of_turns : (m m' : Memory) (s : State) (r : List ℕ) → m'.words.ghost_name ≡ m.words.ghost_name
+    → held.Turns m.words.now m'.words.now s r → Turns m m' s r
+of_turns m m' s r e t = record { same = e; state = t.state; limits = t.limits; region = t.region }
+
 pub stays : (m : Memory) → Becomes m m (state_of m)
 stays m = record { same = refl; state = refl; limits = refl; region = refl }
 
 -- the same state, said otherwise
+pub turns_said : (m m' : Memory) (s t : State) (r u : List ℕ) → s ≡ t → r ≡ u → Turns m m' s r → Turns m m' t u
+turns_said m m' s t r u e k a = record { same = a.same; state = a.state ∙ e; limits = a.limits; region = a.region ∙ k }
+
 pub said : (m m' : Memory) (s t : State) → s ≡ t → Becomes m m' s → Becomes m m' t
-said m m' s t e b = subst (λ (z : State). Becomes m m' z) e b
+said m m' s t e b = turns_said m m' s t (region_in m) (region_in m) e refl b
 
 -- chain: one change after the other
 pub next_then : (f : Limits → State → State) (m m₁ m₂ : Memory) (s : State)

@@ -1,11 +1,11 @@
 use Rattle.std.proofs.Common.{ℕ, ◌<◌, ◌≤◌, min, List, length, arith}
-use Rattle.state.specs.Held.{state_of}
+use Rattle.state.specs.Memory.{state_of}
 use Rattle.apply.proofs.Going.{going_room, going_on, last_turns, last_bytes, last_count}
 use Rattle.apply.proofs.all.apply_all.Goals as goal
 
 pub apply_next-told-requires : goal.apply_next-told-requires
 apply_next-told-requires c =
-    let m₀ : List ℕ = c.args.mem.now in
+    let m₀ = c.args.mem.now in
     let g = c.loop-done.invariant in
     let to = c.due_to-to.ensures in
     let test = c.loop-done-test.true in
@@ -14,7 +14,6 @@ apply_next-told-requires c =
     let long = g.long in
     let few = g.few in
     record {
-      held = g.held;
       next = omega arith;
       there = omega arith;
       few = omega arith;
@@ -24,7 +23,7 @@ apply_next-told-requires c =
 
 pub loop-done-preserved : goal.loop-done-preserved
 loop-done-preserved c =
-    let m₀ : List ℕ = c.args.mem.now in
+    let m₀ = c.args.mem.now in
     let to = c.due_to-to.ensures in
     let test = c.loop-done-test.true in
     let more : c.loop-done.done < min (state_of m₀).commit (length (state_of m₀).log) = omega arith in
@@ -35,10 +34,10 @@ loop-done-preserved c =
 
 pub returns : goal.returns
 returns c =
-    let m₀ : List ℕ = c.args.mem.now in
+    let m₀ = c.args.mem.now in
     let o₀ : List ℕ = c.args.out.now in
     let at : ℕ = c.args.at in
-    let m : List ℕ = c.loop-done.mem in
+    let m = c.loop-done.mem in
     let o : List ℕ = c.loop-done.out in
     let index : ℕ = c.loop-done.done in
     let count : ℕ = c.loop-done.told.count in

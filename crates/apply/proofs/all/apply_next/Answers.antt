@@ -1,7 +1,7 @@
 use Rattle.std.proofs.Common.{ℕ, List, length, sym, ap, ◌∙◌, arith}
 use Rattle.wire.specs.Write.{write_saids}
 use Rattle.wire_write.proofs.Putting.{writes_as, writes_none}
-use Rattle.state.specs.Held.{limits_of, state_of}
+use Rattle.state.specs.Memory.{limits_of, state_of}
 use Rattle.apply.specs.Applied.{session, kept_for, told_client}
 use Rattle.apply.proofs.Telling.{one_said, told_none}
 use Rattle.apply.specs.InMemory.{entry_of}
@@ -10,32 +10,32 @@ use Rattle.apply.proofs.all.apply_next.Goals as goal
 
 pub tell-requires : goal.tell-requires
 tell-requires c =
-    let m : List ℕ = c.args.mem.now in
-    let m₂ : List ℕ = c.do_one.new.mem in
+    let m = c.args.mem.now in
+    let m₂ = c.do_one.new.mem in
     let i : ℕ = c.args.index in
     let k : ℕ = c.in-Some.client in
     let b = c.set_applied.ensures in
     let next = c.requires.next in
     let room = c.requires.room in
-    let t = next_turns m c.set_applied.new.mem i c.requires.held b m₂ c.do_one.ensures.turns in
+    let t = next_turns m c.set_applied.new.self i b m₂ c.do_one.ensures.turns in
     let e = sym c.in-Some.is
-    ∙ (c.do_one.ensures.told ∙ ap told_client (same_told m c.set_applied.new.mem i c.requires.held b)) in
-    let x = next_told m m₂ i k c.requires.held (omega arith) c.requires.there t e in
+    ∙ (c.do_one.ensures.told ∙ ap told_client (same_told m c.set_applied.new.self i b)) in
+    let x = next_told m m₂ i k (omega arith) c.requires.there t e in
     let same = ap length (ap write_saids x.1 ∙ one_said (kept_for k (session (state_of m₂) k))) in
-    record { held = t.held; there = x.0; room = omega arith }
+    record { there = x.0; room = omega arith }
 
 pub returns-in-Some : goal.returns-in-Some
 returns-in-Some c =
-    let m : List ℕ = c.args.mem.now in
-    let m₂ : List ℕ = c.do_one.new.mem in
+    let m = c.args.mem.now in
+    let m₂ = c.do_one.new.mem in
     let i : ℕ = c.args.index in
     let k : ℕ = c.in-Some.client in
     let b = c.set_applied.ensures in
     let next = c.requires.next in
-    let t = next_turns m c.set_applied.new.mem i c.requires.held b m₂ c.do_one.ensures.turns in
+    let t = next_turns m c.set_applied.new.self i b m₂ c.do_one.ensures.turns in
     let e = sym c.in-Some.is
-    ∙ (c.do_one.ensures.told ∙ ap told_client (same_told m c.set_applied.new.mem i c.requires.held b)) in
-    let x = next_told m m₂ i k c.requires.held (omega arith) c.requires.there t e in
+    ∙ (c.do_one.ensures.told ∙ ap told_client (same_told m c.set_applied.new.self i b)) in
+    let x = next_told m m₂ i k (omega arith) c.requires.there t e in
     let one = ap length x.1 in
     record {
       turns = t;
@@ -46,15 +46,15 @@ returns-in-Some c =
 pub returns-in-None : goal.returns-in-None
 unfolding write_saids
 returns-in-None c =
-    let m : List ℕ = c.args.mem.now in
+    let m = c.args.mem.now in
     let i : ℕ = c.args.index in
     let b = c.set_applied.ensures in
     let room = c.requires.room in
     let none = told_none (limits_of m) (state_of m) (entry_of m i) (sym c.in-None.is
-    ∙ (c.do_one.ensures.told ∙ ap told_client (same_told m c.set_applied.new.mem i c.requires.held b))) in
+    ∙ (c.do_one.ensures.told ∙ ap told_client (same_told m c.set_applied.new.self i b))) in
     let zero = ap length none in
     record {
-      turns = next_turns m c.set_applied.new.mem i c.requires.held b c.do_one.new.mem c.do_one.ensures.turns;
+      turns = next_turns m c.set_applied.new.self i b c.do_one.new.mem c.do_one.ensures.turns;
       bytes = writes_as (sym (ap write_saids none)) (writes_none c.args.told.next c.args.out.now (omega arith));
       count = omega arith;
     }

@@ -10,5 +10,5 @@ returns c =
     let there = c.requires.there in
     let long = c.log.ensures.long in
     let e = c.command_at.ensures ∙ ap (drop 4) (c.log.ensures.rows i c.requires.some (omega arith)) in
-    let x = command_held c.args.mem.now ws i c.requires.held c.requires.some c.requires.there e in
+    let x = command_held c.args.mem.now.words.now ws i c.args.mem.now.held c.requires.some c.requires.there e in
     record { command = x.0; long = command_long ws x.0; value = x.1 }

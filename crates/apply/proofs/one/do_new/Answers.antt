@@ -2,8 +2,7 @@ use Rattle.std.proofs.Common.{◌≡◌, ℕ, List, ap, ◌∙◌}
 use Rattle.servers.specs.Store.{Command, Reply}
 use Rattle.texts.specs.Commands.{command_in}
 use Rattle.store.specs.Region.{region_do}
-use Rattle.memory.specs.Layout.{region_in}
-use Rattle.state.specs.Held.{state_of}
+use Rattle.state.specs.Memory.{region_in, state_of}
 use Rattle.apply.specs.Applied.{answered, reply_in, with_session, with_store_done}
 use Rattle.apply.specs.InMemory.{entry_of}
 use Rattle.state.proofs.Laws.{turns_then}
@@ -12,7 +11,7 @@ use Rattle.apply.proofs.one.do_new.Goals as goal
 
 pub returns : goal.returns
 returns c =
-    let m : List ℕ = c.args.mem.now in
+    let m = c.args.mem.now in
     let x : Command = command_in c.copy_from_slice.new.self in
     let y : Command = (entry_of m c.args.index).command in
     let q : Reply = reply_in c.do_in_store-reply.result.after c.do_in_store-reply.result.before in

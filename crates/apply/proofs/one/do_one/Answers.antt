@@ -1,7 +1,6 @@
 use Rattle.std.proofs.Common.{◌≡◌, ℕ, true, false, List, sym, ◌∙◌}
 use Rattle.servers.specs.Server.{Entry, is_new}
-use Rattle.memory.specs.Layout.{region_in}
-use Rattle.state.specs.Held.{state_of}
+use Rattle.state.specs.Memory.{region_in, state_of}
 use Rattle.state.proofs.Laws.{stays, turns_said}
 use Rattle.apply.specs.InMemory.{entry_of}
 use Rattle.apply.proofs.Turning.{new_tested, new_state, new_region, old_state, old_region}
@@ -9,7 +8,7 @@ use Rattle.apply.proofs.one.do_one.Goals as goal
 
 pub returns-then-new-clause-turns : goal.returns-then-new-clause-turns
 returns-then-new-clause-turns c =
-    let m : List ℕ = c.args.mem.now in
+    let m = c.args.mem.now in
     let e : Entry = entry_of m c.args.index in
     let n = c.numbers_at-numbers.ensures.value in
     let new : is_new (state_of m) e ≡ true =
@@ -20,10 +19,10 @@ returns-then-new-clause-turns c =
 
 pub returns-else-new-clause-turns : goal.returns-else-new-clause-turns
 returns-else-new-clause-turns c =
-    let m : List ℕ = c.args.mem.now in
+    let m = c.args.mem.now in
     let e : Entry = entry_of m c.args.index in
     let old : is_new (state_of m) e ≡ false =
     sym (new_tested (state_of m) e c.numbers_at-numbers.result c.last_done-last.result c.is_new-new.result
     c.numbers_at-numbers.ensures.value c.last_done-last.ensures c.is_new-new.ensures) ∙ c.if-new.false in
     turns_said m m _ _ _ _ (old_state (state_of m) e old) (old_region (state_of m) e (region_in m) old)
-    (stays m c.requires.held)
+    (stays m)

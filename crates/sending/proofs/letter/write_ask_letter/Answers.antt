@@ -1,7 +1,7 @@
 use Rattle.std.proofs.Common.{arith}
 use Rattle.servers.specs.Server.{State}
 use Rattle.raft_log.specs.Places.{log_of}
-use Rattle.state.specs.Held.{state_of}
+use Rattle.state.specs.Memory.{state_of}
 use Rattle.sending.specs.Letters.{asks}
 use Rattle.sending.proofs.letter.write_ask_letter.Goals as goal
 use Rattle.sending.proofs.Letters.{sealed, same_ask, length_post, length_ask_message}

@@ -2,8 +2,7 @@ use Rattle.std.proofs.Common.{ℕ, ◌+◌, List, length, ap, ◌∙◌, arith}
 use Rattle.std.proofs.lemmas.List.{length-append}
 use Rattle.servers.specs.Server.{Message}
 use Rattle.servers.specs.declared.limits.Limits.{Limits}
-use Rattle.memory.specs.Layout.{servers_in, me_in}
-use Rattle.state.specs.Held.{state_of}
+use Rattle.state.specs.Memory.{me_in, servers_in, state_of}
 use Rattle.wire_write.proofs.Putting.{writes_none}
 use Rattle.sending.specs.Letters.{post}
 use Rattle.sending.specs.Others.{message_to}
@@ -13,13 +12,13 @@ use Rattle.sending.proofs.ToAll.{sent_bytes, sent_start, sent_more, sent_on, sen
 
 pub loop-h-init : goal.loop-h-init
 loop-h-init c =
-    let m : List ℕ = c.args.mem.now in
+    let m = c.args.mem.now in
     let f : (ℕ → Message) = message_to c.args.sent (state_of m) in
     sent_start (me_in m) f (writes_none c.args.at c.args.out.now (omega arith))
 
 pub write_one-next-requires : goal.write_one-next-requires
 write_one-next-requires c =
-    let m : List ℕ = c.args.mem.now in
+    let m = c.args.mem.now in
     let h : ℕ = c.loop-h.h in
     let f : (ℕ → Message) = message_to c.args.sent (state_of m) in
     let few = ap (λ (l : Limits). l.servers) c.limits-all.ensures in
@@ -28,11 +27,11 @@ write_one-next-requires c =
     let b = length-append (sent_bytes h (me_in m) f) (post h (f h)) in
     let d = sent_fewer (h + 1) (servers_in m) (me_in m) f (omega arith) in
     let n = c.loop-h.invariant.next in
-    record { held = c.requires.held; here = omega arith; room = omega arith }
+    record { here = omega arith; room = omega arith }
 
 pub loop-h-preserved : goal.loop-h-preserved
 loop-h-preserved c =
-    let m : List ℕ = c.args.mem.now in
+    let m = c.args.mem.now in
     let h : ℕ = c.loop-h.h in
     let f : (ℕ → Message) = message_to c.args.sent (state_of m) in
     let me = ap (λ (l : Limits). l.me) c.limits-all.ensures in

@@ -1,6 +1,5 @@
 use Rattle.wire_write.specs.Put.{Writes}
-use Rattle.memory.specs.Layout.{me_in}
-use Rattle.state.specs.Held.{state_of}
+use Rattle.state.specs.Memory.{me_in, state_of}
 use Rattle.sending.specs.Others.{message_to}
 use Rattle.sending.proofs.ToAll.{sent_bytes}
 use Rattle.sending.proofs.others.write_all.Given as goal
