@@ -14,9 +14,9 @@ ghost use Rattle.apply.specs.InMemory.{entry_of, told_of};
 use crate::session::{is_again, is_new, keep, last_done};
 use raft_log::find;
 use raft_log::row::Numbers;
+use state::memory::Memory;
 use store::commands::do_command;
 use store::reply::Reply;
-use state::memory::Memory;
 
 // A command on the store in memory. The applied index counts it already, so there is room for one item more.
 fn do_in_store(mem: &mut Memory<'_>, command: &[u64]) -> Reply

@@ -7,9 +7,9 @@ ghost use Rattle.apply.specs.Applied.{session, answered, reply_in, with_session}
 ghost use Rattle.apply.specs.Means.{last_of};
 
 use state::layout::SESSION;
+use state::memory::Memory;
 use store::reply::Reply;
 use texts::copy::copy_text;
-use state::memory::Memory;
 
 // The last number done for a client, if any was.
 pub fn last_done(mem: &Memory<'_>, client: usize) -> Option<u64>

@@ -6,9 +6,9 @@ ghost use Rattle.memory.specs.Words.{cached_in};
 ghost use Rattle.state.specs.Memory.{clients_in, state_of};
 ghost use Rattle.apply.specs.Applied.{session, kept_for};
 
+use state::memory::Memory;
 use wire_write::put::write_number;
 use wire_write::words::write_perhaps_in;
-use state::memory::Memory;
 
 // What there is after the command goes first, then what was before.
 fn write_session(out: &mut [u8], at: usize, client: u64, kept: &[u64]) -> usize

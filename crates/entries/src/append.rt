@@ -7,9 +7,9 @@ ghost use Rattle.entries.specs.Steps.{CanTake, last_in, extended, extended_if, h
 
 use crate::rows::replace_entries;
 use raft_log::find;
+use state::memory::Memory;
 use wire_read::forward::first_place;
 use wire_read::parts::Entries;
-use state::memory::Memory;
 
 // What is said to the leader: the term, the index of the last entry that came, and whether they were taken.
 #[derive(Clone, Copy)]

@@ -7,8 +7,8 @@ ghost use Rattle.state.specs.Memory.{Becomes, clients_in, limits_of, room_in, st
 
 use crate::rows::push_entry;
 use raft_log::row::Numbers;
-use wire_read::parts::Command;
 use state::memory::Memory;
+use wire_read::parts::Command;
 
 // Its own match index is the new entry's.
 pub fn request(mem: &mut Memory<'_>, client: u64, id: u64, command: Command<'_>)

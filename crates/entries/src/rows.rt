@@ -10,8 +10,8 @@ use raft_log::append::push;
 use raft_log::replace::replace;
 use raft_log::row::{Numbers, ROW};
 use state::layout::LENGTH;
-use wire_read::parts::{Command, Entries};
 use state::memory::Memory;
+use wire_read::parts::{Command, Entries};
 
 // One entry more at the log's end.
 pub fn push_entry(mem: &mut Memory<'_>, numbers: Numbers, command: Command<'_>)

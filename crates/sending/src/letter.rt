@@ -9,9 +9,9 @@ ghost use Rattle.sending.specs.Letters.{post, asks};
 
 use crate::append::write_append;
 use raft_log::find::last_term;
+use state::memory::Memory;
 use wire_write::answer::write_letter_head;
 use wire_write::message::{write_appended, write_ask_vote, write_vote};
-use state::memory::Memory;
 
 // How many bytes stand before the message.
 const HEAD: usize = 9;

@@ -29,12 +29,12 @@ use Rattle.servers.specs.Server.{
 use Rattle.wire.specs.Write.{write_answer}
 use Rattle.wire_write.specs.Answers.{answer_of}
 use Rattle.wire_write.specs.declared.answer.Answer.{Answer}
-use Rattle.memory.specs.Layout.{region_in}
+use Rattle.state.specs.Memory.{Becomes, limits_of, region_in, state_of}
+use Rattle.state.specs.declared.memory.Memory.{Memory}
 use Rattle.memory.specs.Program.{region_all, region_after, done_from}
 use Rattle.checks.specs.Outcome.{refusal_number, refusal_place}
 use Rattle.checks.specs.declared.refusal.Refusal.{Refusal}
 use Rattle.checks.specs.declared.refusal.Refusal.TheVariants.{NoEvent, OutOfRange, OutOfRow, LogFull, LastTerm}
-use Rattle.state.specs.Held.{limits_of, state_of, Held, Becomes}
 use Rattle.server.specs.Answered.{Begins, finish_answer, region_finished, Finished, Answered, Room, RoomFor}
 
 -- AN EVENT THAT IS TAKEN, is done to the end, and is no request at one that doesn't lead
@@ -63,13 +63,13 @@ answer_taken l s e t =
     ∙ ap (λ (b : Bool). pick b (does [] []) a) t.goes_on)
 
 -- the answer is reckoned from the memory after the first step
-answer_moved : (m m₁ : List ℕ) (s : State) (ls ks : List Letter) → Becomes m m₁ s → ls ≡ ks
+answer_moved : (m m₁ : Memory) (s : State) (ls ks : List Letter) → Becomes m m₁ s → ls ≡ ks
     → finish_answer (limits_of m₁) (state_of m₁) ls ≡ finish_answer (limits_of m) s ks
 answer_moved m m₁ s ls ks b e =
     ap (λ (l : Limits). finish_answer l (state_of m₁) ls) b.limits
     ∙ (ap (λ (z : State). finish_answer (limits_of m) z ls) b.state ∙ ap (finish_answer (limits_of m) s) e)
 
-answer_is : (m m₁ : List ℕ) (e : Event) (ls : List Letter) → Taken (limits_of m) (state_of m) e
+answer_is : (m m₁ : Memory) (e : Event) (ls : List Letter) → Taken (limits_of m) (state_of m) e
     → Becomes m m₁ (first_step (limits_of m) (state_of m) e) → ls ≡ first_letters (limits_of m) (state_of m) e
     → finish_answer (limits_of m₁) (state_of m₁) ls ≡ answer (limits_of m) (state_of m) e
 answer_is m m₁ e ls t b f =
@@ -77,7 +77,7 @@ answer_is m m₁ e ls t b f =
     let s : State = state_of m in
     answer_moved m m₁ (first_step l s e) ls (first_letters l s e) b f ∙ sym (answer_taken l s e t)
 
-pub room_taken : (m m₁ : List ℕ) (e : Event) (ls : List Letter) (n : ℕ) → Taken (limits_of m) (state_of m) e
+pub room_taken : (m m₁ : Memory) (e : Event) (ls : List Letter) (n : ℕ) → Taken (limits_of m) (state_of m) e
     → Becomes m m₁ (first_step (limits_of m) (state_of m) e) → ls ≡ first_letters (limits_of m) (state_of m) e → RoomFor m e n
     → Room m₁ (finish_answer (limits_of m₁) (state_of m₁) ls) n
 room_taken m m₁ e ls n t b f h =
@@ -87,7 +87,7 @@ room_taken m m₁ e ls n t b f h =
     let q = h.told in
     record { answer = omega arith; told = omega arith }
 
-pub taken : (m m₁ m' xs ys : List ℕ) (e : Event) (ls : List Letter) (r : Answer) → Taken (limits_of m) (state_of m) e
+pub taken : (m m₁ m' : Memory) (xs ys : List ℕ) (e : Event) (ls : List Letter) (r : Answer) → Taken (limits_of m) (state_of m) e
     → Becomes m m₁ (first_step (limits_of m) (state_of m) e) → ls ≡ first_letters (limits_of m) (state_of m) e
     → Finished m₁ xs m' ys ls r → Answered m xs m' ys e r
 taken m m₁ m' xs ys e ls r t b f d =
@@ -97,7 +97,7 @@ taken m m₁ m' xs ys e ls r t b f d =
     let a = answer_is m m₁ e ls t b f in
     record {
       turns = record {
-        held = d.turns.held;
+        same = d.turns.same ∙ b.same;
         state =
             d.turns.state
             ∙ (ap (λ (z : Limits). after_all z (state_of m₁)) b.limits ∙ (ap (after_all l) b.state ∙ sym (after_taken l s e t)));
@@ -124,11 +124,11 @@ refused_by : {A : Type 0} (l : Limits) (s : State) (e : Event) (x : Refusal) (a 
     → pick (eqb (turned l s e) 0) a (f (turned l s e)) ≡ f (refusal_number x)
 refused_by l s e x a f t = ap (λ (n : ℕ). pick (eqb n 0) a (f n)) t ∙ nonzero x a (f (refusal_number x))
 
-pub turned_away : (m xs ys : List ℕ) (e : Event) (x : Refusal) (r : Answer) → Held m
+pub turned_away : (m : Memory) (xs ys : List ℕ) (e : Event) (x : Refusal) (r : Answer)
     → turned (limits_of m) (state_of m) e ≡ refusal_number x → refusal_place x ≡ place e (refusal_number x)
     → r ≡ answer_of (refused (refusal_number x) (refusal_place x)) → Begins (write_answer (refused (refusal_number x) (refusal_place x))) xs ys
     → Answered m xs m ys e r
-turned_away m xs ys e x r h t p a b =
+turned_away m xs ys e x r t p a b =
     let l : Limits = limits_of m in
     let s : State = state_of m in
     let y : List ℕ = pick (ends_there e) (region_in m) (region_all (done_from l s e) (dues (done_from l s e)) (region_in m)) in
@@ -136,7 +136,7 @@ turned_away m xs ys e x r h t p a b =
     refused_by l s e x (doing l s e) (λ n. refused n (place e n)) t ∙ ap (refused (refusal_number x)) (sym p) in
     record {
       turns = record {
-        held = h;
+        same = refl;
         state = sym (refused_by l s e x (stepped l s e) (λ n. s) t);
         limits = refl;
         region = sym (refused_by l s e x y (λ n. region_in m) t);

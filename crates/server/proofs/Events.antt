@@ -5,7 +5,8 @@ use Rattle.servers.specs.Server as server
 use Rattle.wire.specs.Write.{write_answer}
 use Rattle.wire_write.specs.Answers.{answer_of}
 use Rattle.wire_write.specs.declared.answer.Answer.{Answer}
-use Rattle.memory.specs.Layout.{region_in}
+use Rattle.state.specs.Memory.{Becomes, Turns, limits_of, region_in, state_of}
+use Rattle.state.specs.declared.memory.Memory.{Memory}
 use Rattle.checks.specs.Refusals.{by_state}
 use Rattle.servers.specs.Server.{
   Event,
@@ -33,7 +34,6 @@ use Rattle.servers.specs.Server.{
 }
 use Rattle.memory.specs.Program.{serves, region_all, done_from}
 use Rattle.election.specs.Steps.{goes_on}
-use Rattle.state.specs.Held.{limits_of, state_of, Turns, Becomes}
 use Rattle.server.specs.Answered.{Begins, Answered, finish_answer}
 use Rattle.server.specs.First.{first_of}
 use Rattle.server.specs.declared.first.First.{First}
@@ -61,7 +61,7 @@ letters_by : (l : Limits) (s : State) (b : Bool) → eqb s.kind 2 ≡ b
 letters_by l s true e = rw e refl
 letters_by l s false e = rw e refl
 
-pub timeout_letters : (m m₁ : List ℕ) (b : Bool) (x : First) → Becomes m m₁ (first_step (limits_of m) (state_of m) timeout)
+pub timeout_letters : (m m₁ : Memory) (b : Bool) (x : First) → Becomes m m₁ (first_step (limits_of m) (state_of m) timeout)
     → b ≡ eqb (state_of m).kind 2 → x ≡ pick b Nothing Asks
     → first_of (limits_of m₁) (state_of m₁) x ≡ first_letters (limits_of m) (state_of m) timeout
 timeout_letters m m₁ b x t e f =
@@ -79,7 +79,7 @@ pub request_free : (l : Limits) (s : State) (c k : ℕ) (x : Command) → (eqb s
     → by_state l s (request c k x) ≡ 0
 request_free l s c k x e = ap (λ (b : Bool). pick b 4 0) e
 
-pub request_step : (m m₁ : List ℕ) (c k : ℕ) (x : Command) → eqb (state_of m).kind 2 ≡ true
+pub request_step : (m m₁ : Memory) (c k : ℕ) (x : Command) → eqb (state_of m).kind 2 ≡ true
     → Becomes m m₁ (with_request (limits_of m) c k x (state_of m))
     → Becomes m m₁ (first_step (limits_of m) (state_of m) (request c k x))
 request_step m m₁ c k x e b =
@@ -99,7 +99,7 @@ first_idle l s c k x e = ap (λ (t : Bool). pick t (with_request l c k x s) s) e
 idle_from : (l : Limits) (s : State) (c k : ℕ) (x : Command) → eqb s.kind 2 ≡ false → done_from l s (request c k x) ≡ s
 idle_from l s c k x e = ap (λ (z : State). sent_now (settles l z)) (first_idle l s c k x e) ∙ idle_ready l s e
 
-pub request_declined : (m xs m' ys : List ℕ) (c k : ℕ) (x : Command) (r : Answer)
+pub request_declined : (m : Memory) (xs : List ℕ) (m' : Memory) (ys : List ℕ) (c k : ℕ) (x : Command) (r : Answer)
     → turned (limits_of m) (state_of m) (request c k x) ≡ 0 → eqb (state_of m).kind 2 ≡ false
     → Turns m m' (finished (state_of m)) (region_all (state_of m) (dues (state_of m)) (region_in m)) → r ≡ answer_of not_leader
     → Begins (write_answer not_leader) xs ys → Answered m xs m' ys (request c k x) r
@@ -112,7 +112,7 @@ request_declined m xs m' ys c k x r o e t a b =
     ∙ ap (λ (q : Bool). pick (not q) not_leader (finish_answer l (first_step l s ev) [])) e in
     record {
       turns = record {
-        held = t.held;
+        same = t.same;
         state =
             t.state
             ∙ (ap finished (sym (idle_from l s c k x e)) ∙ sym (ap (λ (n : ℕ). pick (eqb n 0) (stepped l s ev) s) o));

@@ -5,9 +5,9 @@ use Rattle.servers.specs.Server.{Said, Letter, Message, Limits, State, does, wit
 use Rattle.wire.specs.Write.{write_number, write_saids, write_letters, write_answer}
 use Rattle.wire_write.proofs.Texts.{length_number}
 use Rattle.servers.proofs.Tests.{pick_by}
-use Rattle.memory.specs.Layout.{region_in}
+use Rattle.state.specs.Memory.{Becomes, Turns, limits_of, region_in, state_of}
+use Rattle.state.specs.declared.memory.Memory.{Memory}
 use Rattle.memory.specs.Program.{region_all}
-use Rattle.state.specs.Held.{limits_of, state_of, Turns, Becomes}
 use Rattle.sending.specs.Letters.{asks}
 use Rattle.sending.proofs.Later.{after_doing, entries_later}
 use Rattle.server.specs.Answered.{finish_answer, region_finished}
@@ -16,25 +16,25 @@ use Rattle.server.specs.declared.first.First.{First}
 use Rattle.server.specs.declared.first.First.TheVariants.{Nothing, Asks, Vote, Reply}
 
 -- the state from which commands are done
-abbrev pub ready : List ℕ → State
+abbrev pub ready : Memory → State
 ready m = sent_now (settles (limits_of m) (state_of m))
 
 -- what the pieces did, one after the other
-pub record Pieces (m m₁ m₂ m₃ : List ℕ) (send : Bool) : Type 0 where
+pub record Pieces (m m₁ m₂ m₃ : Memory) (send : Bool) : Type 0 where
   pub settled : Becomes m m₁ (settles (limits_of m) (state_of m))
   pub sent : Becomes m₁ m₂ (sent_now (state_of m₁))
   pub why : send ≡ (eqb (state_of m₁).kind 2 && (state_of m₁).send)
   pub done : Turns m₂ m₃ (finished (state_of m₂)) (region_all (state_of m₂) (dues (state_of m₂)) (region_in m₂))
 
-second_state : (m m₁ m₂ m₃ : List ℕ) (b : Bool) → Pieces m m₁ m₂ m₃ b → state_of m₂ ≡ ready m
+second_state : (m m₁ m₂ m₃ : Memory) (b : Bool) → Pieces m m₁ m₂ m₃ b → state_of m₂ ≡ ready m
 second_state m m₁ m₂ m₃ b p = p.sent.state ∙ ap sent_now p.settled.state
 
-pub pieces_turn : (m m₁ m₂ m₃ : List ℕ) (b : Bool) → Pieces m m₁ m₂ m₃ b
+pub pieces_turn : (m m₁ m₂ m₃ : Memory) (b : Bool) → Pieces m m₁ m₂ m₃ b
     → Turns m m₃ (after_all (limits_of m) (state_of m)) (region_finished (limits_of m) (state_of m) (region_in m))
 pieces_turn m m₁ m₂ m₃ b p =
     let e = second_state m m₁ m₂ m₃ b p in
     record {
-      held = p.done.held;
+      same = p.done.same ∙ (p.sent.same ∙ p.settled.same);
       state = p.done.state ∙ ap finished e;
       limits = p.done.limits ∙ (p.sent.limits ∙ p.settled.limits);
       region =
@@ -44,7 +44,7 @@ pieces_turn m m₁ m₂ m₃ b p =
     }
 
 -- what is told
-pub pieces_tell : (m m₁ m₂ m₃ : List ℕ) (b : Bool) → Pieces m m₁ m₂ m₃ b
+pub pieces_tell : (m m₁ m₂ m₃ : Memory) (b : Bool) → Pieces m m₁ m₂ m₃ b
     → tell_all (limits_of m₂) (state_of m₂) (dues (state_of m₂)) ≡ tell_all (limits_of m) (ready m) (dues (ready m))
 pieces_tell m m₁ m₂ m₃ b p =
     ap (λ (l : Limits). tell_all l (state_of m₂) (dues (state_of m₂))) (p.sent.limits ∙ p.settled.limits)
@@ -74,7 +74,7 @@ entries_finished l s true = entries_later l.servers l.me s
 entries_finished l s false = refl
 
 -- what is sent
-pub pieces_send : (m m₁ m₂ m₃ : List ℕ) (b : Bool) (x : First) → Pieces m m₁ m₂ m₃ b
+pub pieces_send : (m m₁ m₂ m₃ : Memory) (b : Bool) (x : First) → Pieces m m₁ m₂ m₃ b
     → letters_of b (limits_of m₃) (state_of m₃) x
     ≡ first_of (limits_of m) (state_of m) x ++ sends_now (limits_of m) (settles (limits_of m) (state_of m))
 pieces_send m m₁ m₂ m₃ b x p =
@@ -100,7 +100,7 @@ length_does ss ls =
     omega arith
 
 -- there is room for the letters after what is told
-pub letters_fit : (m m₁ m₂ m₃ : List ℕ) (b : Bool) (x : First) (n : ℕ) → Pieces m m₁ m₂ m₃ b
+pub letters_fit : (m m₁ m₂ m₃ : Memory) (b : Bool) (x : First) (n : ℕ) → Pieces m m₁ m₂ m₃ b
     → length (write_answer (finish_answer (limits_of m) (state_of m) (first_of (limits_of m) (state_of m) x))) ≤ n
     → 9 + length (write_saids (tell_all (limits_of m₂) (state_of m₂) (dues (state_of m₂)))) + 8
     + length (write_letters (letters_of b (limits_of m₃) (state_of m₃) x)) ≤ n

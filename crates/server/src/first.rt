@@ -2,11 +2,12 @@
 ghost use Rattle.std.specs.Prelude.{◌≡◌, ◌+◌, ◌≤◌, ◌++◌, length};
 ghost use Rattle.wire.specs.Write.{write_letters, write_number};
 ghost use Rattle.wire_write.specs.Put.{Writes};
-ghost use Rattle.state.specs.Held.{Held, limits_of, state_of};
+ghost use Rattle.state.specs.Memory.{limits_of, state_of};
 ghost use Rattle.server.specs.First.{first_of, entries_if, letters_of};
 
 use sending::letter::{write_appended_letter, write_vote_letter};
 use sending::others::{ask_all, others, to_all};
+use state::memory::Memory;
 use wire_write::put::write_number;
 
 // What goes out before entries: nothing, requests for votes, a vote to a server, or a reply to entries.
@@ -18,8 +19,7 @@ pub enum First {
     Reply(u8, u64, u64, bool),
 }
 
-fn count_first(mem: &[u64], first: First) -> u64
-    requires held { Held mem.now }
+fn count_first(mem: &Memory<'_>, first: First) -> u64
     ensures value { result ≡ length (first_of (limits_of mem.now) (state_of mem.now) first) }
     ensures low { result ≤ 16 }
 {
@@ -31,16 +31,14 @@ fn count_first(mem: &[u64], first: First) -> u64
     }
 }
 
-fn count_entries(mem: &[u64], send: bool) -> u64
-    requires held { Held mem.now }
+fn count_entries(mem: &Memory<'_>, send: bool) -> u64
     ensures value { result ≡ length (entries_if send (limits_of mem.now) (state_of mem.now)) }
     ensures low { result ≤ 16 }
 {
     if send { others(mem) } else { 0 }
 }
 
-fn write_first(mem: &[u64], out: &mut [u8], at: usize, first: First) -> usize
-    requires held { Held mem.now }
+fn write_first(mem: &Memory<'_>, out: &mut [u8], at: usize, first: First) -> usize
     requires room { at + length (write_letters (first_of (limits_of mem.now) (state_of mem.now) first)) ≤ length out.old }
     ensures { Writes at (write_letters (first_of (limits_of mem.now) (state_of mem.now) first))
         out.old out.new result }
@@ -53,8 +51,7 @@ fn write_first(mem: &[u64], out: &mut [u8], at: usize, first: First) -> usize
     }
 }
 
-fn write_entries_if(mem: &[u64], out: &mut [u8], at: usize, send: bool) -> usize
-    requires held { Held mem.now }
+fn write_entries_if(mem: &Memory<'_>, out: &mut [u8], at: usize, send: bool) -> usize
     requires room { at + length (write_letters (entries_if send (limits_of mem.now) (state_of mem.now))) ≤ length out.old }
     ensures { Writes at (write_letters (entries_if send (limits_of mem.now) (state_of mem.now)))
         out.old out.new result }
@@ -70,8 +67,7 @@ pub struct Sent {
 }
 
 // The letters, with their number before them.
-pub fn write_letters(mem: &[u64], out: &mut [u8], at: usize, first: First, send: bool) -> Sent
-    requires held { Held mem.now }
+pub fn write_letters(mem: &Memory<'_>, out: &mut [u8], at: usize, first: First, send: bool) -> Sent
     requires room { at + 8 + length (write_letters (letters_of send (limits_of mem.now) (state_of mem.now) first)) ≤ length out.old }
     ensures count { result.count ≡ length (letters_of send (limits_of mem.now) (state_of mem.now) first) }
     ensures bytes { Writes at

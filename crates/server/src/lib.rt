@@ -2,6 +2,7 @@
 // its clients can't tell it and the others from one server is proved of this program in crate promises.
 #![tactic(auto)]
 
+mod act;
 mod finish;
 mod first;
 pub mod open;

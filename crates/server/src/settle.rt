@@ -1,21 +1,20 @@
 // Whether entries are to be sent: asked once, and then there is no reason any more.
 ghost use Rattle.std.specs.Prelude.{◌≡◌, ◌&&◌, ◌==◌};
 ghost use Rattle.servers.specs.Server.{sent_now};
-ghost use Rattle.state.specs.Held.{Held, Becomes, state_of};
+ghost use Rattle.state.specs.Memory.{Becomes, state_of};
 
-use state::head;
+use state::memory::Memory;
 
 // Whether this server leads and has reason to send; a leader has none afterwards.
-pub fn take_send(mem: &mut [u64]) -> bool
-    requires held { Held mem.old }
+pub fn take_send(mem: &mut Memory<'_>) -> bool
     ensures state { Becomes mem.old mem.new (sent_now (state_of mem.old)) }
     ensures value { result ≡ ((state_of mem.old).kind == 2 && (state_of mem.old).send) }
 {
-    let leads = head::is_leader(mem);
+    let leads = mem.is_leader();
     if !leads {
         return false;
     }
-    let send = head::must_send(mem);
-    head::set_send(mem, false);
+    let send = mem.must_send();
+    mem.set_send(false);
     send
 }

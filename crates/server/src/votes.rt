@@ -2,8 +2,7 @@
 ghost use Rattle.std.specs.Prelude.{◌≡◌, ◌<◌, ◌≤◌, length};
 ghost use Rattle.servers.specs.Store.{pick};
 ghost use Rattle.servers.specs.Server.{timeout, comes, ask_vote, vote, appended, turned, last_of_all};
-ghost use Rattle.memory.specs.Layout.{servers_in, room_in};
-ghost use Rattle.state.specs.Held.{Held, limits_of, state_of};
+ghost use Rattle.state.specs.Memory.{limits_of, room_in, servers_in, state_of};
 ghost use Rattle.server.specs.Answered.{Answered, RoomFor};
 
 use crate::finish::finish;
@@ -14,6 +13,7 @@ use election::ask_vote::asked_for_vote;
 use election::timeout::{may_go_on, time_is_up};
 use election::vote::vote_comes;
 use replication::appended::appended_comes;
+use state::memory::Memory;
 use wire_write::answer::Answer;
 
 // Who leads asks for no votes.
@@ -27,8 +27,7 @@ fn asks_unless(leads: bool) -> First
 }
 
 // Time is up, and there is a term to go to.
-fn go_on(mem: &mut [u64], out: &mut [u8]) -> Answer
-    requires held { Held mem.old }
+fn go_on(mem: &mut Memory<'_>, out: &mut [u8]) -> Answer
     requires taken { turned (limits_of mem.old) (state_of mem.old) timeout ≡ 0 }
     requires room { RoomFor mem.old timeout (length out.old) }
     ensures { Answered mem.old out.old mem.new out.new timeout result }
@@ -38,8 +37,7 @@ fn go_on(mem: &mut [u64], out: &mut [u8]) -> Answer
     finish(mem, out, first)
 }
 
-pub fn on_timeout(mem: &mut [u64], out: &mut [u8]) -> Answer
-    requires held { Held mem.old }
+pub fn on_timeout(mem: &mut Memory<'_>, out: &mut [u8]) -> Answer
     requires room { RoomFor mem.old timeout (length out.old) }
     ensures { Answered mem.old out.old mem.new out.new timeout result }
 {
@@ -51,8 +49,14 @@ pub fn on_timeout(mem: &mut [u64], out: &mut [u8]) -> Answer
 }
 
 // A server asks for a vote: the reply goes to it alone.
-pub fn on_ask(mem: &mut [u64], out: &mut [u8], from: u8, term: u64, last: u64, of: u64) -> Answer
-    requires held { Held mem.old }
+pub fn on_ask(
+    mem: &mut Memory<'_>,
+    out: &mut [u8],
+    from: u8,
+    term: u64,
+    last: u64,
+    of: u64,
+) -> Answer
     requires here { from < servers_in mem.old }
     requires low { term ≤ last_of_all }
     requires taken { turned (limits_of mem.old) (state_of mem.old) (comes from (ask_vote term last of)) ≡ 0 }
@@ -64,8 +68,7 @@ pub fn on_ask(mem: &mut [u64], out: &mut [u8], from: u8, term: u64, last: u64, o
     finish(mem, out, First::Vote(from, reply.term, reply.granted))
 }
 
-pub fn on_vote(mem: &mut [u64], out: &mut [u8], from: u8, term: u64, granted: bool) -> Answer
-    requires held { Held mem.old }
+pub fn on_vote(mem: &mut Memory<'_>, out: &mut [u8], from: u8, term: u64, granted: bool) -> Answer
     requires here { from < servers_in mem.old }
     requires low { term ≤ last_of_all }
     requires taken { turned (limits_of mem.old) (state_of mem.old) (comes from (vote term granted)) ≡ 0 }
@@ -79,14 +82,13 @@ pub fn on_vote(mem: &mut [u64], out: &mut [u8], from: u8, term: u64, granted: bo
 
 // What another server says of entries.
 pub fn on_appended(
-    mem: &mut [u64],
+    mem: &mut Memory<'_>,
     out: &mut [u8],
     from: u8,
     term: u64,
     index: u64,
     ok: bool,
 ) -> Answer
-    requires held { Held mem.old }
     requires here { from < servers_in mem.old }
     requires low { term ≤ last_of_all }
     requires within { index ≤ room_in mem.old }

@@ -5,10 +5,9 @@ ghost use Rattle.servers.specs.Promise.{readable};
 ghost use Rattle.wire.specs.Write.{write_answer};
 ghost use Rattle.wire_write.specs.Answers.{answer_of};
 ghost use Rattle.wire_read.specs.Means.{command_of, entries_of};
-ghost use Rattle.memory.specs.Layout.{room_in, region_in};
+ghost use Rattle.state.specs.Memory.{Turns, limits_of, region_in, room_in, state_of};
 ghost use Rattle.memory.specs.Program.{region_all};
 ghost use Rattle.checks.specs.Refusals.{by_state};
-ghost use Rattle.state.specs.Held.{Held, Turns, limits_of, state_of};
 ghost use Rattle.server.specs.Answered.{Answered, Begins, RoomFor};
 
 use crate::finish::finish;
@@ -18,26 +17,23 @@ use apply::all::apply_all;
 use checks::refusal::Refusal;
 use entries::append::append;
 use entries::request::request;
-use state::head;
-use state::limits::limits;
+use state::memory::Memory;
 use wire_read::parts::{Command, Entries};
 use wire_write::answer::{Answer, write_not_leader};
 
 // Whether the log of a leader has no room for an entry more.
-fn is_full(mem: &[u64]) -> bool
-    requires held { Held mem.now }
+fn is_full(mem: &Memory<'_>) -> bool
     ensures { result ≡ (((state_of mem.now).kind == 2)
         && nat_le (room_in mem.now) (length (state_of mem.now).log)) }
 {
-    let leads = head::is_leader(mem);
-    let room = limits(mem).room;
-    let len = head::last_index(mem);
+    let leads = mem.is_leader();
+    let room = mem.limits().room;
+    let len = mem.last_index();
     leads && room <= len
 }
 
 // Who doesn't lead says so, and applies what was committed.
-fn decline(mem: &mut [u64], out: &mut [u8]) -> Answer
-    requires held { Held mem.old }
+fn decline(mem: &mut Memory<'_>, out: &mut [u8]) -> Answer
     requires room { 17 + 546 * room_in mem.old ≤ length out.old }
     ensures state { Turns mem.old mem.new (finished (state_of mem.old))
         (region_all (state_of mem.old) (dues (state_of mem.old)) (region_in mem.old)) }
@@ -51,13 +47,12 @@ fn decline(mem: &mut [u64], out: &mut [u8]) -> Answer
 
 // A client asks a leader.
 fn take_request(
-    mem: &mut [u64],
+    mem: &mut Memory<'_>,
     out: &mut [u8],
     client: u64,
     id: u64,
     command: Command<'_>,
 ) -> Answer
-    requires held { Held mem.old }
     requires leads { ((state_of mem.old).kind == 2) ≡ true }
     requires readable { readable (request client id (command_of command)) ≡ true }
     requires taken { turned (limits_of mem.old) (state_of mem.old) (request client id (command_of command)) ≡ 0 }
@@ -71,13 +66,12 @@ fn take_request(
 
 // A client asks: a full log refuses, and who doesn't lead says so.
 pub fn on_request(
-    mem: &mut [u64],
+    mem: &mut Memory<'_>,
     out: &mut [u8],
     client: u64,
     id: u64,
     command: Command<'_>,
 ) -> Answer
-    requires held { Held mem.old }
     requires readable { readable (request client id (command_of command)) ≡ true }
     requires passed { turned (limits_of mem.old) (state_of mem.old) (request client id (command_of command))
         ≡ by_state (limits_of mem.old) (state_of mem.old) (request client id (command_of command)) }
@@ -89,7 +83,7 @@ pub fn on_request(
     if full {
         return refuse(out, Refusal::LogFull);
     }
-    let leads = head::is_leader(mem);
+    let leads = mem.is_leader();
     if !leads {
         return decline(mem, out);
     }
@@ -98,7 +92,7 @@ pub fn on_request(
 
 // AppendEntries: the reply goes to who sent it.
 pub fn on_append(
-    mem: &mut [u64],
+    mem: &mut Memory<'_>,
     out: &mut [u8],
     from: u8,
     term: u64,
@@ -107,7 +101,6 @@ pub fn on_append(
     commit: u64,
     entries: Entries<'_>,
 ) -> Answer
-    requires held { Held mem.old }
     requires readable { readable (comes from (append term before before_term (entries_of entries) commit)) ≡ true }
     requires taken { turned (limits_of mem.old) (state_of mem.old)
         (comes from (append term before before_term (entries_of entries) commit)) ≡ 0 }

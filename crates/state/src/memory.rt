@@ -1,5 +1,6 @@
 // A server's memory: lent words that hold its limits, its state and its store's region, from one method to the next. In between a method
 // may write words one by one.
+ghost use Rattle.std.specs.Prelude.{◌≡◌};
 ghost use Rattle.state.specs.Held.{Held};
 ghost use Rattle.state.specs.Once.{Held_once};
 
@@ -7,4 +8,14 @@ ghost use Rattle.state.specs.Once.{Held_once};
 pub struct Memory<'a> {
     pub words: &'a mut [u64],
     pub ghost held: { Held words.now } by { Held_once words.now },
+}
+
+impl<'a> Memory<'a> {
+    pub fn new(words: &'a mut [u64]) -> Memory<'a>
+        requires { Held words.old }
+        ensures same { result.words.ghost_name ≡ words.entry.ghost_name }
+        ensures words { result.words.now ≡ words.old }
+    {
+        Memory { words }
+    }
 }

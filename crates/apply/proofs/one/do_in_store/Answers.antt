@@ -40,8 +40,10 @@ invariant_of-mem c =
     c.args.mem.now.held.fits.3.items
     (d.after ∙ ap (λ (y : List ℕ). perhaps_words 32 (reply x (items_of y)).now) e)
     (d.before ∙ ap (λ (y : List ℕ). perhaps_words 32 (reply x (items_of y)).old) e) in
-    record { held = (stored m x r c.do_command.new.region c.do_command.result.after c.do_command.result.before at (length m - at)
-          c.args.mem.now.held e p (omega arith) c.requires.few c.requires.command.good d).held }
+    record {
+      held = (stored m x r c.do_command.new.region c.do_command.result.after c.do_command.result.before at (length m - at)
+          c.args.mem.now.held e p (omega arith) c.requires.few c.requires.command.good d).held;
+    }
 
 pub returns : goal.returns
 returns c =

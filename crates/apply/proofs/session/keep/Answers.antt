@@ -18,11 +18,13 @@ invariant_of-mem c =
     let a : List ℕ = c.args.reply.now.after in
     let b : List ℕ = c.args.reply.now.before in
     let at : ℕ = c.session_at-at.result in
-    record { held = (
-    session_written c.args.mem.now.words.now c.pack_session.new.row c.args.client (answered c.args.number (reply_in a b))
-    at (at + 68 - at) c.args.mem.now.held c.requires.there c.session_at-at.ensures.value (omega arith)
-    (c.pack_session.ensures ∙ kept_words c.args.number a b c.requires.after c.requires.before)
-    (record { id = omega arith; now = c.requires.after.fits; old = c.requires.before.fits })).held }
+    record {
+      held = (
+          session_written c.args.mem.now.words.now c.pack_session.new.row c.args.client (answered c.args.number (reply_in a b))
+          at (at + 68 - at) c.args.mem.now.held c.requires.there c.session_at-at.ensures.value (omega arith)
+          (c.pack_session.ensures ∙ kept_words c.args.number a b c.requires.after c.requires.before)
+          (record { id = omega arith; now = c.requires.after.fits; old = c.requires.before.fits })).held;
+    }
 
 pub returns : goal.returns
 returns c =

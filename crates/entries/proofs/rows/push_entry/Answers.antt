@@ -18,11 +18,13 @@ invariant_of-mem c =
     let wide : size ≡ 80 * room_in m = omega arith in
     let last = c.last_index-len.ensures.last in
     let is = last_long m c.args.mem.now.held in
-    record { held = (
-    push_written m c.push.new.region c.args.numbers (command_of c.args.command)
-    (c.last_index-len.result + 1) at size c.args.mem.now.held c.log_at-at.ensures wide (omega arith) c.requires.room c.requires.good
-    (c.push.ensures (room_in m) (suc (last_index s.log)) s.log (omega arith)
-    (lent m at size c.args.mem.now.held c.log_at-at.ensures wide))).held }
+    record {
+      held = (
+          push_written m c.push.new.region c.args.numbers (command_of c.args.command)
+          (c.last_index-len.result + 1) at size c.args.mem.now.held c.log_at-at.ensures wide (omega arith) c.requires.room c.requires.good
+          (c.push.ensures (room_in m) (suc (last_index s.log)) s.log (omega arith)
+          (lent m at size c.args.mem.now.held c.log_at-at.ensures wide))).held;
+    }
 
 pub returns : goal.returns
 returns c =

@@ -21,12 +21,14 @@ invariant_of-mem c =
     let low = c.last_index-len.ensures.low in
     let is = last_long m c.args.mem.now.held in
     let count = count_is c.args.entries in
-    record { held = (
-    replace_written m c.replace.new.region c.args.before (entries_of c.args.entries)
-    (c.args.before + c.args.entries.count) at size c.args.mem.now.held c.log_at-at.ensures wide (omega arith) c.requires.within
-    c.requires.can.room c.requires.can.row c.requires.can.good
-    (c.replace.ensures (room_in m) s.log (omega arith) g.row (omega arith)
-    (lent m at size c.args.mem.now.held c.log_at-at.ensures wide))).held }
+    record {
+      held = (
+          replace_written m c.replace.new.region c.args.before (entries_of c.args.entries)
+          (c.args.before + c.args.entries.count) at size c.args.mem.now.held c.log_at-at.ensures wide (omega arith) c.requires.within
+          c.requires.can.room c.requires.can.row c.requires.can.good
+          (c.replace.ensures (room_in m) s.log (omega arith) g.row (omega arith)
+          (lent m at size c.args.mem.now.held c.log_at-at.ensures wide))).held;
+    }
 
 pub returns : goal.returns
 returns c =

@@ -2,7 +2,7 @@ use Rattle.std.proofs.Common.{ℕ, List, length, ap, ◌∙◌, arith}
 use Rattle.servers.specs.Server.{Limits, tell_all, dues}
 use Rattle.wire.specs.Write.{write_saids}
 use Rattle.wire_write.proofs.Putting.{length_put}
-use Rattle.state.specs.Held.{limits_of, state_of}
+use Rattle.state.specs.Memory.{limits_of, state_of}
 use Rattle.apply.proofs.Sizes.{told_fits}
 use Rattle.server.specs.First.{letters_of}
 use Rattle.server.proofs.Finishing.{Pieces, pieces_turn, pieces_tell, pieces_send, letters_fit}
@@ -11,19 +11,18 @@ use Rattle.server.proofs.finish.finish.Goals as goal
 
 pub apply_all-told-requires : goal.apply_all-told-requires
 apply_all-told-requires c =
-    let m₂ : List ℕ = c.take_send-send.new.mem in
-    let held = c.take_send-send.ensures.state.held in
-    let most = told_fits m₂ held in
+    let m₂ = c.take_send-send.new.mem in
+    let most = told_fits m₂ in
     let same = ap (λ (l : Limits). l.room) (c.take_send-send.ensures.state.limits ∙ c.settle.ensures.limits) in
     let room = c.requires.room.told in
-    record { held = held; room = omega arith }
+    record { room = omega arith }
 
 pub write_letters-sent-requires : goal.write_letters-sent-requires
 write_letters-sent-requires c =
-    let m : List ℕ = c.args.mem.now in
-    let m₁ : List ℕ = c.settle.new.mem in
-    let m₂ : List ℕ = c.take_send-send.new.mem in
-    let m₃ : List ℕ = c.apply_all-told.new.mem in
+    let m = c.args.mem.now in
+    let m₁ = c.settle.new.mem in
+    let m₂ = c.take_send-send.new.mem in
+    let m₃ = c.apply_all-told.new.mem in
     let p : Pieces m m₁ m₂ m₃ c.take_send-send.result = record {
       settled = c.settle.ensures;
       sent = c.take_send-send.ensures.state;
@@ -36,14 +35,14 @@ write_letters-sent-requires c =
     let room = w.room in
     let ss : List ℕ = write_saids (tell_all (limits_of m₂) (state_of m₂) (dues (state_of m₂))) in
     let same = ap length w.bytes ∙ length_put 9 ss c.args.out.now (omega arith) in
-    record { held = c.apply_all-told.ensures.turns.held; room = omega arith }
+    record { room = omega arith }
 
 pub returns : goal.returns
 returns c =
-    let m : List ℕ = c.args.mem.now in
-    let m₁ : List ℕ = c.settle.new.mem in
-    let m₂ : List ℕ = c.take_send-send.new.mem in
-    let m₃ : List ℕ = c.apply_all-told.new.mem in
+    let m = c.args.mem.now in
+    let m₁ = c.settle.new.mem in
+    let m₂ = c.take_send-send.new.mem in
+    let m₃ = c.apply_all-told.new.mem in
     let b = c.take_send-send.result in
     let p : Pieces m m₁ m₂ m₃ b = record {
       settled = c.settle.ensures;

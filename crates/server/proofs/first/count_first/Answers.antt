@@ -1,16 +1,15 @@
 use Rattle.std.proofs.Common.{ℕ, List, arith}
 use Rattle.servers.specs.Server.{Message}
-use Rattle.memory.specs.Layout.{servers_in, me_in}
-use Rattle.state.specs.Held.{state_of}
+use Rattle.state.specs.Memory.{me_in, servers_in, state_of}
 use Rattle.sending.specs.Letters.{asks}
 use Rattle.sending.proofs.ToAll.{how_many}
 use Rattle.server.proofs.first.count_first.Goals as goal
 
 pub returns-in-Asks : goal.returns-in-Asks
 returns-in-Asks c =
-    let m : List ℕ = c.args.mem.now in
+    let m = c.args.mem.now in
     let f : (ℕ → Message) = λ h. asks (state_of m) in
-    let few = c.requires.held.good.servers in
-    let n = how_many (servers_in m) (me_in m) f c.requires.held.good.me in
+    let few = c.args.mem.now.held.good.servers in
+    let n = how_many (servers_in m) (me_in m) f c.args.mem.now.held.good.me in
     let e = c.others.ensures f in
     rw c.in-Asks.is (record { value = e; low = omega arith })

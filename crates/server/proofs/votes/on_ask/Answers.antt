@@ -1,6 +1,6 @@
 use Rattle.std.proofs.Common.{ℕ, List, sym, refl}
 use Rattle.servers.specs.Server.{Event, comes, ask_vote}
-use Rattle.state.specs.Held.{limits_of, state_of}
+use Rattle.state.specs.Memory.{limits_of, state_of}
 use Rattle.server.specs.First.{first_of}
 use Rattle.server.specs.declared.first.First.{First}
 use Rattle.server.specs.declared.first.First.TheVariants.{Vote}
@@ -9,8 +9,8 @@ use Rattle.server.proofs.votes.on_ask.Goals as goal
 
 pub returns : goal.returns
 returns c =
-    let m : List ℕ = c.args.mem.now in
-    let m₁ : List ℕ = c.asked_for_vote-reply.new.mem in
+    let m = c.args.mem.now in
+    let m₁ = c.asked_for_vote-reply.new.mem in
     let b = c.asked_for_vote-reply.ensures.state in
     let v = c.asked_for_vote-reply.result in
     let x : First = Vote c.args.from v.term v.granted in

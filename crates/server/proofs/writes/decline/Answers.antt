@@ -3,11 +3,11 @@ use Rattle.apply.proofs.Sizes.{told_fits}
 use Rattle.server.proofs.Written.{begins_after}
 use Rattle.server.proofs.writes.decline.Goals as goal
 
-pub apply_all-requires-clause-room : goal.apply_all-requires-clause-room
-apply_all-requires-clause-room c =
-    let most = told_fits c.args.mem.now c.requires.held in
+pub apply_all-requires : goal.apply_all-requires
+apply_all-requires c =
+    let most = told_fits c.args.mem.now in
     let room = c.requires.room in
-    omega arith
+    record { room = omega arith }
 
 pub returns : goal.returns
 returns c =

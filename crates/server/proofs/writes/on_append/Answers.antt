@@ -1,7 +1,7 @@
 use Rattle.std.proofs.Common.{ℕ, List, sym, refl}
 use Rattle.servers.specs.Server.{Event, comes, append}
 use Rattle.wire_read.specs.Means.{entries_of}
-use Rattle.state.specs.Held.{limits_of, state_of}
+use Rattle.state.specs.Memory.{limits_of, state_of}
 use Rattle.entries.proofs.Given.{append_given}
 use Rattle.server.specs.First.{first_of}
 use Rattle.server.specs.declared.first.First.{First}
@@ -16,8 +16,8 @@ append-reply-requires-clause-can c =
 
 pub returns : goal.returns
 returns c =
-    let m : List ℕ = c.args.mem.now in
-    let m₁ : List ℕ = c.append-reply.new.mem in
+    let m = c.args.mem.now in
+    let m₁ = c.append-reply.new.mem in
     let v = c.append-reply.result in
     let x : First = Reply c.args.from v.term v.index v.ok in
     let es = entries_of c.args.entries in

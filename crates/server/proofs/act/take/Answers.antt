@@ -1,4 +1,4 @@
-use Rattle.server.proofs.step.take.Goals as goal
+use Rattle.server.proofs.act.take.Goals as goal
 
 pub returns-in-Timeout : goal.returns-in-Timeout
 returns-in-Timeout c = rw c.in-Timeout.is c.on_timeout.ensures

@@ -1,4 +1,4 @@
-use Rattle.server.proofs.step.take_message.Goals as goal
+use Rattle.server.proofs.act.take_message.Goals as goal
 
 pub returns-in-AskVote : goal.returns-in-AskVote
 returns-in-AskVote c = rw c.in-AskVote.is c.on_ask.ensures
