@@ -1,6 +1,6 @@
 -- The commands, from what their steps leave.
 use Rattle.std.proofs.Common.{◌≡◌, ℕ, ◌<◌, ◌≤◌, Bool, true, false, List, [], ◌∷◌, Ok, Err, Result, MatchResult, IfOk, length, sym, refl, ap, ◌∙◌, subst, arith}
-use Rattle.servers.specs.Store.{pick, same_text, same_perhaps, Perhaps, Command, get, put, remove, swap, drop_if, Reply, look, reply}
+use Rattle.servers.specs.Store.{same_text, same_perhaps, Perhaps, Command, get, put, remove, swap, drop_if, Reply, look, reply}
 use Rattle.texts.specs.Words.{Text, PerhapsText, perhaps_words}
 use Rattle.texts.proofs.Cells.{length_perhaps_words}
 use Rattle.texts.proofs.Order.{perhaps_same}

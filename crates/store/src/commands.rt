@@ -12,6 +12,7 @@ use crate::reply::{Reply, told, told_none, told_text};
 use texts::compare::same;
 
 // Where a name is or goes, and what there is before the command.
+#[tactic(auto, using(crate::proofs::Doing::spot_within, crate::proofs::Doing::spot_look))]
 fn find_before(region: &[u64], name: &[u64]) -> (Result<usize, usize>, [u64; 33])
     requires held { Held region.now }
     requires name { OfText 8 name.now }
@@ -49,6 +50,7 @@ pub fn do_put(region: &mut [u64], name: &[u64], text: &[u64]) -> Reply
     Reply { after, before }
 }
 
+#[tactic(auto, using(crate::proofs::Doing::spot_within))]
 pub fn do_remove(region: &mut [u64], name: &[u64]) -> Reply
     requires held { Held region.old }
     requires name { OfText 8 name.now }
@@ -61,6 +63,7 @@ pub fn do_remove(region: &mut [u64], name: &[u64]) -> Reply
 }
 
 // If there is just what is expected, a text or none, it becomes this text.
+#[tactic(auto, using(crate::proofs::Doing::length_told))]
 pub fn do_swap(region: &mut [u64], name: &[u64], expected: &[u64], text: &[u64]) -> Reply
     requires held { Held region.old }
     requires room { length (items_of region.old) < capacity region.old }
@@ -84,6 +87,7 @@ pub fn do_swap(region: &mut [u64], name: &[u64], expected: &[u64], text: &[u64])
 }
 
 // If there is just this text, it goes.
+#[tactic(auto, using(crate::proofs::Doing::spot_within))]
 pub fn do_drop_if(region: &mut [u64], name: &[u64], text: &[u64]) -> Reply
     requires held { Held region.old }
     requires name { OfText 8 name.now }
@@ -105,6 +109,7 @@ pub fn do_drop_if(region: &mut [u64], name: &[u64], text: &[u64]) -> Reply
 }
 
 // A command by its words, as they stand in a row of a log.
+#[tactic(auto, using(crate::proofs::CommandParts::command_long, crate::proofs::CommandParts::command_name, crate::proofs::CommandParts::command_expects, crate::proofs::CommandParts::command_text))]
 pub fn do_command(region: &mut [u64], command: &[u64]) -> Reply
     requires held { Held region.old }
     requires room { length (items_of region.old) < capacity region.old }
