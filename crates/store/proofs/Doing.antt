@@ -53,6 +53,9 @@ pub inserted_put : (k v r : List ℕ) (p : ℕ) → SpotOf k r (Err p) → inser
 unfolding region_put
 inserted_put k v r p q = ap (λ (j : ℕ). inserted_at j k v r) q.0 ∙ sym (pick_false (found k (items_of r)) _ _ q.1)
 
+-- for a text put at a spot
+pub ruleset put_parts = (spot_most, spot_in, replaced_put, inserted_put)
+
 pub removed_do : (k r r' : List ℕ) (s : Result ℕ ℕ) → SpotOf k r s → MatchResult s (λ p. r' ≡ removed_at p r) (λ p. r' ≡ r)
     → r' ≡ region_remove k r
 unfolding region_remove

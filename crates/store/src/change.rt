@@ -62,7 +62,7 @@ pub fn remove_at(region: &mut [u64], p: usize)
 }
 
 // A text under a name, whose spot this is.
-#[tactic(auto, using(crate::proofs::Doing::spot_most, crate::proofs::Doing::spot_in, crate::proofs::Doing::replaced_put, crate::proofs::Doing::inserted_put))]
+#[tactic(auto, using(crate::proofs::Doing::put_parts))]
 pub fn put_item(region: &mut [u64], spot: Result<usize, usize>, name: &[u64], text: &[u64])
     requires held { Held region.old }
     requires room { count region.old < capacity region.old }

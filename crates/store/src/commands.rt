@@ -1,4 +1,5 @@
 // The five commands, on names and texts as words. Each leaves the region after it, and tells what there is after it and was before.
+// Words are passed as slices, since they are parts of a row of a log or of the region: an array would be made of each where it is passed.
 ghost use Rattle.std.specs.Prelude.{◌≡◌, ℕ, ◌<◌, length};
 ghost use Rattle.servers.specs.Store.{get, put, remove, swap, drop_if, look};
 ghost use Rattle.texts.specs.Words.{text_in, perhaps_in, perhaps_words};
@@ -108,8 +109,8 @@ pub fn do_drop_if(region: &mut [u64], name: &[u64], text: &[u64]) -> Reply
     }
 }
 
-// A command by its words, as they stand in a row of a log.
-#[tactic(auto, using(crate::proofs::CommandParts::command_long, crate::proofs::CommandParts::command_name, crate::proofs::CommandParts::command_expects, crate::proofs::CommandParts::command_text))]
+// A command by its words, as they stand in a row of a log, where a number says which it is.
+#[tactic(auto, using(crate::proofs::CommandParts::command_parts))]
 pub fn do_command(region: &mut [u64], command: &[u64]) -> Reply
     requires held { Held region.old }
     requires room { length (items_of region.old) < capacity region.old }
