@@ -48,7 +48,7 @@ impl Numbers {
     }
 }
 
-// The first word of the row of an index, for who writes: who reads is lent the rows one by one.
+// The first word of the row of an index: the only place that says where rows stand.
 pub fn place(index: usize) -> usize
     requires some { 0 < index }
     requires low { index ≤ 2 ^ 40 }
