@@ -1,6 +1,7 @@
 -- Entries one after the other: their fields and their row.
-use Rattle.std.proofs.Common.{◌≡◌, ℕ, suc, ◌+◌, Bool, true, false, ◌&&◌, eqb, ltb, leb, List, [], ◌∷◌, length, None, Some, sym, refl, ap, ◌∙◌, arith}
+use Rattle.std.proofs.Common.{◌≡◌, ℕ, suc, ◌+◌, ◌-◌, Bool, true, false, ◌&&◌, eqb, ltb, leb, List, [], ◌∷◌, length, None, Some, sym, refl, ap, ◌∙◌, arith}
 use Rattle.std.specs.Bool.{then_some}
+use Rattle.std.specs.Range.{range_inclusive_len}
 use mathlib.Core.Bool.{and_assoc, and-true}
 use Rattle.std.proofs.lemmas.Option.{none-some, same_Some}
 use Rattle.servers.specs.Server as server
@@ -60,3 +61,11 @@ none_good false v p = refl
 -- there are as many as were counted
 pub entries_long : (es : Entries) → length (entries_of es) ≡ es.count
 entries_long es = entries_length es.count es.bytes.now es.there
+
+-- the numbers from 1 to n, and the last of those that are left
+pub numbers_left : (a b n : ℕ) {x : Bool} → a ≡ 1 → b ≡ n → x ≡ false → range_inclusive_len (λ c d. d - c) a b x ≡ n
+numbers_left a b n p q e = rw (p, q, e) (omega arith)
+
+pub last_number : (a b : ℕ) (x : Bool) {n : ℕ} → a ≡ 1 → range_inclusive_len (λ c d. d - c) a b x ≡ suc n → b ≡ suc n
+last_number a b true p q = absurd (omega arith)
+last_number a b false p q = omega arith

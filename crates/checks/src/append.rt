@@ -14,12 +14,11 @@ use wire_read::parts::{Entries, Message};
 fn pass(l: Limits, before: u64, entries: Entries<'_>) -> Option<bool>
     ensures { result ≡ passes l before entries.entry }
 {
-    let mut left = entries.count;
     let mut row = true;
-    for entry in entries {
+    // Each with how many are left, itself among them.
+    for (left, entry) in (1..=entries.count).rev().zip(entries) {
         let entry = sound_entry(l, entry)?;
         row &= stands(entry.index, before, left);
-        left -= 1;
     }
     Some(row)
 }
@@ -42,10 +41,7 @@ fn check_entries(l: Limits, before: u64, entries: Entries<'_>) -> Result<Entries
     let Some(row) = pass(l, before, entries) else {
         return Err(Refusal::OutOfRange);
     };
-    if !row {
-        return Err(Refusal::OutOfRow);
-    }
-    if !has_room(l, before, entries.count) {
+    if !row || !has_room(l, before, entries.count) {
         return Err(Refusal::OutOfRow);
     }
     Ok(entries)

@@ -1,5 +1,4 @@
-// The refusals of an event that need no state, in their order, over the event's bytes: what is handed on is in its ranges, in a
-// row and within the room.
+// The refusals of an event that need no state, in their order: what is handed on is in its ranges, in a row and within the room.
 #![tactic(auto)]
 
 ghost use Rattle.checks.specs.Refusals.{RefusalsInOrder};

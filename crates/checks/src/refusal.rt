@@ -12,6 +12,7 @@ pub enum Refusal {
     LastTerm,
 }
 
+// Methods with names, since `u8::from` and `u64::from` would not say which of the two is meant.
 impl Refusal {
     pub fn number(self) -> u8
         ensures { result ≡ refusal_number self }
