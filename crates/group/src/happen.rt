@@ -1,5 +1,5 @@
-// ONE HAPPENING: an event comes to a server of the group, and what it was and what was answered are kept. Memories and journals are lent
-// beside the group: a struct that held them would need a clause for each of the three references wherever it is passed.
+// ONE HAPPENING: an event comes to a server of the group, and what it was and what was answered are kept.
+// Memories and journals are no struct: one that holds a `&mut` needs a clause about each of the three references wherever it is passed.
 ghost use Rattle.std.specs.Prelude.{◌≡◌, ℕ, ◌+◌, ◌^◌, ◌<◌, ◌≤◌, List, length};
 ghost use Rattle.wire.specs.Read.{read_event};
 ghost use Rattle.group.specs.Journals.{world_in};
@@ -13,6 +13,7 @@ use wire_read::event::read_event;
 use wire_read::parts::Event;
 
 // What a group is opened with; how many words each server has, and how many bytes its longest answer.
+// That it is sized is no ghost field, since a happening asks less of it than an opening does.
 #[derive(Clone, Copy, PartialEq, Eq, Debug)]
 pub struct Group {
     pub servers: u64,

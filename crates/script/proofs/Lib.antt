@@ -1,1 +1,3 @@
 mod Spaces
+mod Spelling
+mod Refusing

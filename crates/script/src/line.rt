@@ -105,7 +105,7 @@ fn ask_in(line: &[u8], server: u64, event: &mut Vec<u8>) -> Result<Line, Fault> 
 
 // Bytes as they are; there may be none.
 fn bytes_in(line: &[u8], server: u64, event: &mut Vec<u8>) -> Result<Line, Fault> {
-    let (digits, rest) = next(line).unwrap_or((line, line));
+    let (digits, rest) = next(line).unwrap_or((&[], &[]));
     push_hex(event, digits)?;
     ended(rest, Line::Bytes { server })
 }

@@ -37,7 +37,8 @@ pub fn next(line: &[u8]) -> Option<(&[u8], &[u8])>
 
 // The number that decimal digits write, if it is below 2^64. `parse` would take a sign before them.
 pub fn number(digits: &[u8]) -> Option<u64>
-    ensures { MatchOption result (IsNumeral 10 digits.now → 2 ^ 64 ≤ digits_value 10 digits.now) (λ n. IsNumeral 10 digits.now × (n ≡ digits_value 10 digits.now)) }
+    ensures { MatchOption result (IsNumeral 10 digits.now → 2 ^ 64 ≤ digits_value 10 digits.now)
+        (λ n. IsNumeral 10 digits.now × (n ≡ digits_value 10 digits.now)) }
 {
     if digits.starts_with(b"+") {
         return None;

@@ -52,27 +52,14 @@ fn serve<R: Read>(
     Ok(ended(filled)?)
 }
 
-// Opens a server in its memory, and answers an input.
-fn open_and_serve<R: Read>(
-    rt: &HostRuntime,
-    l: Limits,
-    input: &mut R,
-    mem: &mut [u64],
-    out: &mut [u8],
-) -> anyhow::Result<()>
-    requires good { GoodLimits serves (limits_for serves l) }
-{
-    open(mem, l, out.len())?;
-    serve(rt, input, mem, out)
-}
-
-// The bytes for answers have room for the record of a longest answer, and for many short ones.
+// Opens a server, and answers an input. The bytes for answers have room for the record of a longest answer, and for many short ones.
 fn start<R: Read>(rt: &HostRuntime, l: Limits, input: &mut R) -> anyhow::Result<()>
     requires good { GoodLimits serves (limits_for serves l) }
 {
     let mut mem = vec![in rt.alloc(); 0u64; memory_words(l)]?;
     let mut out = vec![in rt.alloc(); 0u8; answer_bytes(l).saturating_add(MANY)]?;
-    open_and_serve(rt, l, input, &mut mem, &mut out)
+    open(&mut mem, l, out.len())?;
+    serve(rt, input, &mut mem, &mut out)
 }
 
 fn run_with(rt: &HostRuntime) -> anyhow::Result<()> {

@@ -1,4 +1,5 @@
 // A server is opened in words that are lent to it.
+// Good limits are a clause and no type of their own: a session has its limits from a memory, and would make such a value for one call.
 ghost use Rattle.std.specs.Prelude.{◌≡◌, ◌+◌, ◌*◌, ◌≤◌, true, ◌++◌, length, drop};
 ghost use Rattle.servers.specs.Opened.{limits_of};
 ghost use Rattle.servers.specs.Promise.{GoodLimits};

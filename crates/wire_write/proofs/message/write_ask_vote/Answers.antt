@@ -1,14 +1,9 @@
-use Rattle.std.proofs.Common.{arith}
 use Rattle.wire_write.proofs.Putting.{writes_then}
 use Rattle.wire_write.proofs.message.write_ask_vote.Goals as goal
 
-pub returns : goal.returns
-returns c =
-    record {
-      bytes =
-          writes_then c.write_byte-n0.ensures.bytes
-          (writes_then c.write_number-n1.ensures.bytes
-          (writes_then c.write_number-n2.ensures.bytes
-          c.write_number.ensures.bytes));
-      next = omega arith;
-    }
+pub returns-clause-bytes : goal.returns-clause-bytes
+returns-clause-bytes c =
+    writes_then c.write_byte-n0.ensures.bytes
+    (writes_then c.write_number-n1.ensures.bytes
+    (writes_then c.write_number-n2.ensures.bytes
+    c.write_number.ensures.bytes))
