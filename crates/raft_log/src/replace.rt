@@ -24,7 +24,8 @@ fn pack_entry(row: &mut [u64], entry: Entry<'_>)
     pack_row(row, numbers, entry.command);
 }
 
-// The entries of a message into as many rows.
+// The entries of a message into as many rows. A row is lent by its place: of what `rchunks_exact_mut` lends, a proof would keep no
+// more than the length.
 fn pack_rows(rows: &mut [u64], entries: Entries<'_>)
     requires size { length rows.old ≡ 80 * entries.count }
     requires low { entries.count ≤ 2 ^ 32 }
