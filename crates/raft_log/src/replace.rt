@@ -24,8 +24,8 @@ fn pack_entry(row: &mut [u64], entry: Entry<'_>)
     pack_row(row, numbers, entry.command);
 }
 
-// The entries of a message into as many rows. A row is lent by its place: of what `rchunks_exact_mut` lends, a proof would keep no
-// more than the length.
+// The entries of a message into as many rows.
+// A row is lent by its place: after a loop over `rchunks_exact_mut` the check knows nothing of the words that it wrote.
 fn pack_rows(rows: &mut [u64], entries: Entries<'_>)
     requires size { length rows.old ≡ 80 * entries.count }
     requires low { entries.count ≤ 2 ^ 32 }
