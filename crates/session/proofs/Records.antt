@@ -58,8 +58,7 @@ length_recorded at k n xs ys zs r h e q w =
     ap length w.bytes ∙ length_put at (write_number n) (put_mid a k xs ys) (omega arith) ∙ omega arith
 
 -- one event, from what the step and the two writes did
-pub ran_one : {m bs xs part m' ys zs : List ℕ} {at k len r : ℕ} {ans : Answer} → Stepped m bs part m' ys ans
-    → at + 8 ≤ length xs → k ≡ length xs - (at + 8) → length ys ≡ k → len ≡ answer_length ans
+pub ran_one : {m bs xs part m' ys zs : List ℕ} {at k len r : ℕ} {ans : Answer} → Stepped m bs part m' ys ans → at + 8 ≤ length xs → k ≡ length xs - (at + 8) → length ys ≡ k → len ≡ answer_length ans
     → Writes at (write_number len) (put_mid (at + 8) k xs ys) zs r → Reached (limits_of m') m' → limits_of m' ≡ limits_of m
     → RanOne m bs xs at m' zs (at + 8 + len)
 ran_one {m = m} {bs = bs} {xs = xs} {part = part} {m' = m'} {ys = ys} {zs = zs} {at = at} {k = k} {len = len} {r = r} {ans = ans}

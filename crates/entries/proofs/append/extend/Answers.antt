@@ -24,6 +24,5 @@ returns c =
     then_to (with_commit c.max.result) m m₁ c.set_commit.new.mem
     (replaced (state_of m) c.args.before es) (extended (state_of m) c.args.before es c.args.commit)
     c.replace_entries.ensures c.set_commit.ensures
-    (rw (c.max.ensures, c.min.ensures)
-    (committed (state_of m) (state_of m₁) c.args.before es c.args.commit c.commit-own.result c.last_index-end.result
+    (rw (c.max.ensures, c.min.ensures) (committed (state_of m) (state_of m₁) c.args.before es c.args.commit c.commit-own.result c.last_index-end.result
     c.replace_entries.ensures.state c.commit-own.ensures.value c.last_index-end.ensures.last))

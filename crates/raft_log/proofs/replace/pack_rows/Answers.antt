@@ -6,12 +6,7 @@ use Rattle.raft_log.proofs.replace.pack_rows.Goals as goal
 use Rattle.raft_log.proofs.Replaced.{left_all, left_next, left_none}
 
 pub loop-i-init : goal.loop-i-init
-loop-i-init c = (
-  (tt, tt),
-  tt,
-  left_all (rev_source (zip_first c.into_iter-i-iterator.result)) (zip_second c.into_iter-i-iterator.result) c.args.entries
-      c.args.rows.now cc cc c.requires.size,
-)
+loop-i-init c = ((tt, tt), tt, left_all (rev_source (zip_first c.into_iter-i-iterator.result)) (zip_second c.into_iter-i-iterator.result) c.args.entries c.args.rows.now (cc) (cc) c.requires.size)
 
 pub loop-i-preserved : goal.loop-i-preserved
 loop-i-preserved c =

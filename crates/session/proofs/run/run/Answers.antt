@@ -9,6 +9,6 @@ taking-smaller c = (leaves c.taking.rest.now c.in-Ok.event.now c.in-Ok.after.now
 
 pub taking-preserved : goal.taking-preserved
 taking-preserved c =
-    going_more c.args.mem.now c.args.records.now c.args.out.now c.taking.mem c.taking.out c.taking.rest.now c.taking.written
-    c.in-Ok.event.now c.run_one-written.new.mem c.run_one-written.new.out c.in-Ok.after.now c.run_one-written.result
-    c.taking.invariant c.in-Ok.ensures c.run_one-written.ensures
+    going_more c.args.mem.now c.args.records.now c.args.out.now c.taking.mem c.taking.out c.taking.rest.now c.taking.written c.in-Ok.event.now
+    c.run_one-written.new.mem c.run_one-written.new.out c.in-Ok.after.now c.run_one-written.result c.taking.invariant c.in-Ok.ensures
+    c.run_one-written.ensures
