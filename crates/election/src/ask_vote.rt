@@ -20,7 +20,7 @@ pub struct Vote {
 fn is_newer(own: u64, length: u64, of: u64, last: u64) -> bool
     ensures { result ≡ newer own length of last }
 {
-    own < of || (of == own && length <= last)
+    (own, length) <= (of, last)
 }
 
 pub fn is_as_new(mem: &Memory<'_>, last: u64, of: u64) -> bool

@@ -18,7 +18,7 @@ fn pack_parts(words: &mut [u64], tag: u64, name: &[u8], expected: Option<&[u8]>,
     write_text(&mut words[43..76], text);
 }
 
-// A command that has no text of its own, or no name, has an empty one there.
+// A command that has no text has an empty one there.
 pub fn pack_command(words: &mut [u64], command: Command<'_>)
     requires { length words.old ≡ 76 }
     ensures { words.new ≡ command_words (command_of command.entry) }

@@ -25,6 +25,7 @@ fn pack_entry(row: &mut [u64], entry: Entry<'_>)
 }
 
 // The entries of a message into as many rows.
+// A row is lent by its place: after a loop over `rchunks_exact_mut` the check knows nothing of the words that it wrote.
 fn pack_rows(rows: &mut [u64], entries: Entries<'_>)
     requires size { length rows.old ≡ 80 * entries.count }
     requires low { entries.count ≤ 2 ^ 32 }

@@ -78,7 +78,8 @@ fn write_entry(out: &mut [u8], at: usize, row: &LogRow, index: u64) -> usize
     write_command(out, next, &row[4..])
 }
 
-// The entries above an index. The other bytes stay, and the place after the entries is told.
+// The entries above an index. The other bytes stay, and the place after the entries is told. Who writes rows asks that they are sound, and
+// who looks one up does not: a type that holds it would ask it of all.
 pub fn write_entries(out: &mut [u8], at: usize, log: &[LogRow], index: usize) -> usize
     requires sound { Sound (length log.now) (words_of log.now) }
     requires room { at + length (write_entries (above index (log_of log.now))) ≤ length out.old }

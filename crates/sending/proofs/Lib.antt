@@ -2,4 +2,3 @@ pub mod Letters
 pub mod Rows
 pub mod ToAll
 pub mod Later
-pub mod Fitting

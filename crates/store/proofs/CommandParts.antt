@@ -59,3 +59,6 @@ module _ (ws : List ℕ) (o : OfCommand ws) where
       ∙ third_part (text_words 8 (name_of x)) (perhaps_words 32 (expects x)) (text_words 32 (text_of x)) (length_text_words 8 (name_of x))
       (length_perhaps_words 32 (expects x)) (length_text_words 32 (text_of x)))
       o.good.2
+
+-- for a command's parts
+pub ruleset command_parts = (command_long, command_name, command_expects, command_text)

@@ -1,6 +1,6 @@
 -- The commands, from what their steps leave.
 use Rattle.std.proofs.Common.{◌≡◌, ℕ, ◌<◌, ◌≤◌, Bool, true, false, List, [], ◌∷◌, Ok, Err, Result, MatchResult, IfOk, length, sym, refl, ap, ◌∙◌, subst, arith}
-use Rattle.servers.specs.Store.{pick, same_text, same_perhaps, Perhaps, Command, get, put, remove, swap, drop_if, Reply, look, reply}
+use Rattle.servers.specs.Store.{same_text, same_perhaps, Perhaps, Command, get, put, remove, swap, drop_if, Reply, look, reply}
 use Rattle.texts.specs.Words.{Text, PerhapsText, perhaps_words}
 use Rattle.texts.proofs.Cells.{length_perhaps_words}
 use Rattle.texts.proofs.Order.{perhaps_same}
@@ -52,6 +52,9 @@ replaced_put k v r p q =
 pub inserted_put : (k v r : List ℕ) (p : ℕ) → SpotOf k r (Err p) → inserted_at p k v r ≡ region_put k v r
 unfolding region_put
 inserted_put k v r p q = ap (λ (j : ℕ). inserted_at j k v r) q.0 ∙ sym (pick_false (found k (items_of r)) _ _ q.1)
+
+-- for a text put at a spot
+pub ruleset put_parts = (spot_most, spot_in, replaced_put, inserted_put)
 
 pub removed_do : (k r r' : List ℕ) (s : Result ℕ ℕ) → SpotOf k r s → MatchResult s (λ p. r' ≡ removed_at p r) (λ p. r' ≡ r)
     → r' ≡ region_remove k r

@@ -3,7 +3,6 @@ pub mod Stores
 pub mod Rows
 pub mod RowNumbers
 pub mod Regions
-pub mod Shifts
 pub mod Reading
 pub mod Writing
 pub mod Doing

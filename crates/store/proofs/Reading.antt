@@ -56,12 +56,13 @@ name_in r p o h =
     ap (take 9) (sym (drop-drop (42 * i) (2 + capacity r) r) ∙ ap (drop (42 * i)) (rows_tail r o))
     ∙ (name_at (rows_of r) i (row_within r p o h) ∙ ap (λ (x : Item). text_words 8 x.key) (sym (nth_is r p o h)))
 
-pub text_part : (r : List ℕ) (p : ℕ) → Held r → p < count r → take 33 (drop (RowPlace r p + 9) r) ≡ text_words 32 (Nth r p).value
-text_part r p o h =
+pub text_part : (r : List ℕ) (p a k : ℕ) → Held r → p < count r → a ≡ RowPlace r p + 9 → k ≡ 33
+    → take k (drop a r) ≡ text_words 32 (Nth r p).value
+text_part r p a k o h e f =
     let i : ℕ = get_or (index_of r) p 0 in
-    let e : RowPlace r p + 9 ≡ 2 + capacity r + (42 * i + 9) = omega arith in
-    ap (λ (k : ℕ). take 33 (drop k r)) e
-    ∙ (ap (take 33) (sym (drop-drop (42 * i + 9) (2 + capacity r) r) ∙ ap (drop (42 * i + 9)) (rows_tail r o))
+    let g : a ≡ 2 + capacity r + (42 * i + 9) = omega arith in
+    rw (f, g)
+    (ap (take 33) (sym (drop-drop (42 * i + 9) (2 + capacity r) r) ∙ ap (drop (42 * i + 9)) (rows_tail r o))
     ∙ (text_at (rows_of r) i (row_within r p o h) ∙ ap (λ (x : Item). text_words 32 x.value) (sym (nth_is r p o h))))
 
 -- names compared by their words

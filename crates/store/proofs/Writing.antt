@@ -6,8 +6,8 @@ use Rattle.servers.specs.Store.{Item}
 use Rattle.texts.specs.Words.{All, Byte, Text, text_words, text_in}
 use Rattle.texts.proofs.Cells.{length_text_words, text_back}
 use Rattle.texts.proofs.Parts.{take_past}
-use Rattle.store.specs.Region.{blank, item, item_words, rows_words, region_of, count, capacity, index_of, rows_of, opened, closed}
-use Rattle.store.specs.Region.{replaced_at, inserted_at, removed_at, numbers, empty_region}
+use Rattle.store.specs.Region.{blank, item, item_words, rows_words, region_of, count, capacity, index_of, rows_of, opened}
+use Rattle.store.specs.Region.{replaced_at, inserted_at, numbers, empty_region}
 use Rattle.store.specs.Calls.{Held, OfText}
 use Rattle.store.proofs.Rows.{row_put, text_put, rows_blank}
 use Rattle.store.proofs.Reading.{Nth, RowPlace, nth_is, index_below, held_few}
@@ -79,7 +79,7 @@ index_written : (c n k : ℕ) (is js : List ℕ) (xs : List Item) → length is 
 index_written c n k is js xs e f =
     ap (λ (ys : List ℕ). c ∷ (n ∷ (js ++ ys))) (drop_at is (rows_words xs) k (e ∙ sym f))
 
--- an item in, and an item out
+-- an item in
 pub insert_is : (r name text ws js : List ℕ) (p at k m : ℕ) → Held r → count r < capacity r → OfText 8 name → OfText 32 text
     → at ≡ RowPlace r (count r) → k ≡ 42 → m ≡ capacity r → ws ≡ name ++ text
     → js ≡ opened p (count r) (take m (drop 2 (put_mid at k r ws)))
@@ -96,15 +96,6 @@ insert_is r name text ws js p at k m o h n t e f g w j =
     ap (λ (q : List ℕ). set (put_mid 2 m q js) 0 (count r + 1)) a
     ∙ (ap (λ (q : List ℕ). set q 0 (count r + 1)) (index_written (count r) (capacity r) m (index_of r) js ys o.parts.index g)
     ∙ ap (λ (q : List ℕ). region_of (count r + 1) (capacity r) q ys) s)
-
-pub remove_is : (r js : List ℕ) (p m : ℕ) → Held r → m ≡ capacity r → js ≡ closed p (count r) (take m (drop 2 r))
-    → set (put_mid 2 m r js) 0 (count r - 1) ≡ removed_at p r
-remove_is r js p m o g j =
-    let s : js ≡ closed p (count r) (index_of r) = j ∙ ap (λ (q : ℕ). closed p (count r) (take q (drop 2 r))) g in
-    ap (λ (q : List ℕ). set (put_mid 2 m q js) 0 (count r - 1)) o.whole
-    ∙ (ap (λ (q : List ℕ). set q 0 (count r - 1))
-    (index_written (count r) (capacity r) m (index_of r) js (rows_of r) o.parts.index g)
-    ∙ ap (λ (q : List ℕ). region_of (count r - 1) (capacity r) q (rows_of r)) s)
 
 -- what a slice of bytes holds
 pub all_bytes : (t : List ℕ) → ((i : ℕ) → get_or t i 0 < 256) → All Byte t

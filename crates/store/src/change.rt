@@ -9,6 +9,7 @@ use crate::row::{INDEX, NAME, ROW, row_at};
 use texts::copy::copy_text;
 
 // Another text for the p-th item: its row alone changes.
+#[tactic(auto, using(crate::proofs::Writing::length_of_text, crate::proofs::Writing::text_written))]
 pub fn replace(region: &mut [u64], p: usize, text: &[u64])
     requires held { Held region.old }
     requires within { p < count region.old }
@@ -30,6 +31,7 @@ pub fn write_row(row: &mut [u64], name: &[u64], text: &[u64])
 }
 
 // A new item as the p-th, in the first free row.
+#[tactic(auto, using(crate::proofs::Writing::length_of_text, crate::proofs::Writing::insert_is))]
 pub fn insert(region: &mut [u64], p: usize, name: &[u64], text: &[u64])
     requires held { Held region.old }
     requires room { count region.old < capacity region.old }
@@ -60,6 +62,7 @@ pub fn remove_at(region: &mut [u64], p: usize)
 }
 
 // A text under a name, whose spot this is.
+#[tactic(auto, using(crate::proofs::Doing::put_parts))]
 pub fn put_item(region: &mut [u64], spot: Result<usize, usize>, name: &[u64], text: &[u64])
     requires held { Held region.old }
     requires room { count region.old < capacity region.old }

@@ -1,4 +1,5 @@
 // The five commands, on names and texts as words. Each leaves the region after it, and tells what there is after it and was before.
+// Words are passed as slices, since they are parts of a row of a log or of the region: an array would be made of each where it is passed.
 ghost use Rattle.std.specs.Prelude.{◌≡◌, ℕ, ◌<◌, length};
 ghost use Rattle.servers.specs.Store.{get, put, remove, swap, drop_if, look};
 ghost use Rattle.texts.specs.Words.{text_in, perhaps_in, perhaps_words};
@@ -12,6 +13,7 @@ use crate::reply::{Reply, told, told_none, told_text};
 use texts::compare::same;
 
 // Where a name is or goes, and what there is before the command.
+#[tactic(auto, using(crate::proofs::Doing::spot_within, crate::proofs::Doing::spot_look))]
 fn find_before(region: &[u64], name: &[u64]) -> (Result<usize, usize>, [u64; 33])
     requires held { Held region.now }
     requires name { OfText 8 name.now }
@@ -49,6 +51,7 @@ pub fn do_put(region: &mut [u64], name: &[u64], text: &[u64]) -> Reply
     Reply { after, before }
 }
 
+#[tactic(auto, using(crate::proofs::Doing::spot_within))]
 pub fn do_remove(region: &mut [u64], name: &[u64]) -> Reply
     requires held { Held region.old }
     requires name { OfText 8 name.now }
@@ -61,6 +64,7 @@ pub fn do_remove(region: &mut [u64], name: &[u64]) -> Reply
 }
 
 // If there is just what is expected, a text or none, it becomes this text.
+#[tactic(auto, using(crate::proofs::Doing::length_told))]
 pub fn do_swap(region: &mut [u64], name: &[u64], expected: &[u64], text: &[u64]) -> Reply
     requires held { Held region.old }
     requires room { length (items_of region.old) < capacity region.old }
@@ -84,6 +88,7 @@ pub fn do_swap(region: &mut [u64], name: &[u64], expected: &[u64], text: &[u64])
 }
 
 // If there is just this text, it goes.
+#[tactic(auto, using(crate::proofs::Doing::spot_within))]
 pub fn do_drop_if(region: &mut [u64], name: &[u64], text: &[u64]) -> Reply
     requires held { Held region.old }
     requires name { OfText 8 name.now }
@@ -104,7 +109,8 @@ pub fn do_drop_if(region: &mut [u64], name: &[u64], text: &[u64]) -> Reply
     }
 }
 
-// A command by its words, as they stand in a row of a log.
+// A command by its words, as they stand in a row of a log, where a number says which it is.
+#[tactic(auto, using(crate::proofs::CommandParts::command_parts))]
 pub fn do_command(region: &mut [u64], command: &[u64]) -> Reply
     requires held { Held region.old }
     requires room { length (items_of region.old) < capacity region.old }

@@ -8,6 +8,7 @@ ghost use Rattle.store.specs.Calls.{Held, OfText, SpotOf, text_of_words};
 use crate::row::{name_at, text_at};
 
 // Whether the name of the p-th item comes before this one.
+#[tactic(auto, using(crate::proofs::Reading::less_is, crate::proofs::Reading::nth_good, texts::proofs::Cells::length_cells))]
 fn less_at(region: &[u64], p: usize, name: &[u64]) -> bool
     requires held { Held region.now }
     requires within { p < count region.now }
@@ -18,6 +19,7 @@ fn less_at(region: &[u64], p: usize, name: &[u64]) -> bool
 }
 
 // Whether the p-th item has this name.
+#[tactic(auto, using(crate::proofs::Reading::same_is, crate::proofs::Reading::nth_good, texts::proofs::Cells::length_cells))]
 fn same_at(region: &[u64], p: usize, name: &[u64]) -> bool
     requires held { Held region.now }
     requires within { p < count region.now }
@@ -48,6 +50,7 @@ pub fn lower_bound(region: &[u64], name: &[u64]) -> usize
 }
 
 // Where a name is, or where it goes.
+#[tactic(auto, using(crate::proofs::Reading::spot_here, crate::proofs::Reading::spot_past))]
 pub fn find(region: &[u64], name: &[u64]) -> Result<usize, usize>
     requires held { Held region.now }
     requires name { OfText 8 name.now }
@@ -63,6 +66,7 @@ pub fn find(region: &[u64], name: &[u64]) -> Result<usize, usize>
 }
 
 // The text of a name, in words, if there is one.
+#[tactic(auto, using(crate::proofs::Doing::spot_in, crate::proofs::Doing::spot_look))]
 pub fn look_up<'a>(region: &'a [u64], name: &[u64]) -> Option<&'a [u64]>
     requires held { Held region.now }
     requires name { OfText 8 name.now }

@@ -1,4 +1,5 @@
-// Texts by names in a part of lent words: the commands of the store, against its definitions.
+// Texts by names in a part of lent words: the commands of the store, against its definitions. A region is passed as the words that it
+// is: a struct that holds a `&mut` of them would need a clause on its ghost name in each method, beside those that stand here.
 #![tactic(auto)]
 
 ghost use Rattle.store.specs.Laws.{RegionLaws};

@@ -14,6 +14,7 @@ pub struct Reply {
 }
 
 // Tells this text.
+#[tactic(auto, using(crate::proofs::Writing::length_of_text))]
 pub fn told_text(text: &[u64]) -> [u64; 33]
     requires { OfText 32 text.now }
     ensures { result ≡ perhaps_words 32 (text_in text.now ∷ []) }

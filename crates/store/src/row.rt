@@ -43,6 +43,7 @@ pub fn row_at(region: &[u64], p: usize) -> usize
 }
 
 // The name of the p-th item.
+#[tactic(auto, using(crate::proofs::Reading::name_in))]
 pub fn name_at(region: &[u64], p: usize) -> &[u64]
     requires held { Held region.now }
     requires within { p < count region.now }
@@ -53,6 +54,7 @@ pub fn name_at(region: &[u64], p: usize) -> &[u64]
 }
 
 // The text of the p-th item.
+#[tactic(auto, using(crate::proofs::Reading::text_part))]
 pub fn text_at(region: &[u64], p: usize) -> &[u64]
     requires held { Held region.now }
     requires within { p < count region.now }

@@ -12,6 +12,7 @@ fn number_rows(index: &mut [u64])
 }
 
 // Makes words a region with room for n items, and none in it.
+#[tactic(auto, using(crate::proofs::Writing::start_is, crate::proofs::Regions::ok_empty))]
 pub fn open_region(region: &mut [u64], n: usize)
     requires { length region.old ≡ region_size n }
     ensures empty { region.new ≡ empty_region n }

@@ -137,7 +137,7 @@ pub fn fill(region: &mut [u64], step: u8) -> bool
     good
 }
 
-// Removes them, in an order that the step gives.
+// Removes them, in an order that the step gives. A loop for both would take the operation, and clauses on what it asks and keeps.
 pub fn empty(region: &mut [u64], step: u8) -> bool
     requires held { Held region.old }
     ensures held { Held region.new }

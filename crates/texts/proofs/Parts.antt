@@ -1,7 +1,7 @@
 -- What the code's steps leave: one word more, a padded last word, parts put together.
 use Rattle.std.proofs.Common.{◌≡◌, ℕ, zero, suc, ◌+◌, ◌-◌, ◌*◌, ◌^◌, ◌<◌, ◌≤◌, Bool, true, false, ◌&&◌, eqb, List, [], ◌∷◌, ◌++◌, length, map, get_or, take, drop, set, replicate, sym, refl, ap, ◌∙◌, arith}
-use borrow.Rule.Slice.PartMut.{put_mid, post_of}
-use Rattle.std.proofs.lemmas.List.{length-append, length-take-le, append-nil, append_assoc, drop-drop, drop_all, take_at, take_more, drop_more, get_or-drop, take-append-drop, length-drop, take-append-le}
+use borrow.Rule.Slice.PartMut.{put_mid}
+use Rattle.std.proofs.lemmas.List.{length-take-le, append-nil, append_assoc, drop-drop, drop_all, take_at, take_more, drop_more, get_or-drop, take-append-drop, length-drop, take-append-le}
 use Rattle.std.proofs.lemmas.Bool.Decides.{nat_tests}
 use Rattle.std.specs.Simd.{first_chunks}
 use Rattle.servers.specs.Store.{same_text}

@@ -3,6 +3,7 @@ ghost use Rattle.std.specs.Prelude.{◌≡◌, ℕ, ◌+◌, ◌-◌, ◌<◌, �
 ghost use Rattle.texts.specs.Means.{perhaps_of};
 ghost use Rattle.texts.specs.Words.{number_be, cells, text_words, perhaps_words, word, All};
 
+#[tactic(auto, using(crate::proofs::Parts::number_eight))]
 fn number8(bytes: [u8; 8]) -> u64
     ensures { result ≡ number_be 8 bytes }
 {
@@ -29,6 +30,7 @@ fn pack_whole(row: &mut [u64], chunks: &[[u8; 8]])
     }
 }
 
+#[tactic(auto, using(crate::proofs::Parts::cells_short))]
 fn pack_rest(row: &mut [u64], text: &[u8])
     requires { (length text.now < 8) × (0 < length row.old) }
     ensures { row.new ≡ cells (length row.old) text.now }
@@ -38,6 +40,7 @@ fn pack_rest(row: &mut [u64], text: &[u8])
 }
 
 // The text's bytes, as far as the row reaches.
+#[tactic(auto, using(crate::proofs::Parts::cells_whole))]
 pub fn pack(row: &mut [u64], text: &[u8])
     ensures { row.new ≡ cells (length row.old) text.now }
 {
@@ -53,6 +56,7 @@ pub fn pack(row: &mut [u64], text: &[u8])
 }
 
 // A text: its length, and its bytes.
+#[tactic(auto, using(crate::proofs::Parts::head_and_rest, crate::proofs::Parts::long_from))]
 pub fn write_text(row: &mut [u64], text: &[u8])
     requires { 0 < length row.old }
     ensures { row.new ≡ text_words (length row.old - 1) text.now }
@@ -62,6 +66,7 @@ pub fn write_text(row: &mut [u64], text: &[u8])
 }
 
 // No text.
+#[tactic(auto, using(crate::proofs::Parts::zeros_are))]
 pub fn write_none(row: &mut [u64])
     requires { 0 < length row.old }
     ensures { row.new ≡ perhaps_words (length row.old - 1) [] }

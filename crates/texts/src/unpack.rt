@@ -19,6 +19,7 @@ fn unpack_whole(out: &mut [u8], row: &[u64])
 }
 
 // The first bytes of the row's, as many as out takes.
+#[tactic(auto, using(crate::proofs::Parts::unpacked_part))]
 pub fn unpack(out: &mut [u8], row: &[u64])
     requires { length out.old ≤ 8 * length row.now }
     ensures { out.new ≡ take (length out.old) (unpacked row.now) }

@@ -7,17 +7,6 @@ use Rattle.group.specs.Playing.{TurnedOn}
 use Rattle.group.proofs.Playing.{denied, ends, played, came_part}
 use Rattle.group.proofs.happen.come.Goals as goal
 
-pub room_for-requires : goal.room_for-requires
-room_for-requires c =
-    let j = c.requires.playing.journals in
-    let used = ends c.args.kept.answers c.args.answers.now (answers_of j.kept) j.answers_end j.answers_are in
-    let within = c.requires.within in
-    record {
-      events = ends c.args.kept.events c.args.events.now (events_of j.kept) j.events_end j.events_are;
-      answers = used;
-      size = omega arith;
-    }
-
 pub returns-in_err-room_for : goal.returns-in_err-room_for
 returns-in_err-room_for c =
     let ys : List ℕ = c.args.answers.now in

@@ -1,4 +1,3 @@
-use Rattle.std.proofs.Common.{arith}
 use Rattle.wire_write.proofs.Putting.{writes_then}
 use Rattle.group.proofs.journal.put_came.Goals as goal
 

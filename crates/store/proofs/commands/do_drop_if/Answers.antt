@@ -1,11 +1,7 @@
 use Rattle.std.proofs.Common.{ℕ, List, [], ◌∷◌, refl}
 use Rattle.texts.specs.Words.{text_in}
-use Rattle.store.proofs.Doing.{spot_within, tested, did_get, did_remove, drop_removes, drop_gets}
+use Rattle.store.proofs.Doing.{tested, did_get, did_remove, drop_removes, drop_gets}
 use Rattle.store.proofs.commands.do_drop_if.Goals as goal
-
-pub remove_item-requires-clause-within : goal.remove_item-requires-clause-within
-remove_item-requires-clause-within c =
-    spot_within (text_in c.args.name.now) c.args.region.now c.find_before-spot.result.0 c.requires.held c.find_before-spot.ensures.spot
 
 pub returns-then-same : goal.returns-then-same
 returns-then-same c =

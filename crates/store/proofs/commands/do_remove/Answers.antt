@@ -1,10 +1,6 @@
 use Rattle.texts.specs.Words.{text_in}
-use Rattle.store.proofs.Doing.{spot_within, did_remove}
+use Rattle.store.proofs.Doing.{did_remove}
 use Rattle.store.proofs.commands.do_remove.Goals as goal
-
-pub remove_item-requires-clause-within : goal.remove_item-requires-clause-within
-remove_item-requires-clause-within c =
-    spot_within (text_in c.args.name.now) c.args.region.now c.find_before-spot.result.0 c.requires.held c.find_before-spot.ensures.spot
 
 pub returns : goal.returns
 returns c =

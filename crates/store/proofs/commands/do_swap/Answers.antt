@@ -1,14 +1,8 @@
-use Rattle.std.proofs.Common.{ℕ, List, sym, ◌∙◌}
-use Rattle.servers.specs.Store.{look, Perhaps}
+use Rattle.std.proofs.Common.{ℕ, List}
+use Rattle.servers.specs.Store.{Perhaps}
 use Rattle.texts.specs.Words.{text_in, perhaps_in}
-use Rattle.store.specs.Region.{items_of}
-use Rattle.store.proofs.Doing.{length_told, tested, did_get, did_put, swap_puts, swap_gets}
+use Rattle.store.proofs.Doing.{tested, did_get, did_put, swap_puts, swap_gets}
 use Rattle.store.proofs.commands.do_swap.Goals as goal
-
-pub same-requires : goal.same-requires
-same-requires c =
-    length_told (look (text_in c.args.name.now) (items_of c.args.region.now)) _ c.find_before-spot.ensures.told
-    ∙ sym (length_told (perhaps_in c.args.expected.now) c.args.expected.now c.requires.expected.is)
 
 pub returns-then-same : goal.returns-then-same
 returns-then-same c =

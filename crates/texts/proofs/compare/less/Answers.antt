@@ -1,7 +1,7 @@
-use Rattle.std.proofs.Common.{length, sym, ap, ◌∙◌, arith}
+use Rattle.std.proofs.Common.{sym, ◌∙◌}
 use Rattle.std.proofs.lemmas.Slice.Zip.{Zip-more}
 use Rattle.std.proofs.lemmas.Iterator.{empty_from_Zip}
-use Rattle.texts.proofs.Parts.{less_here, less_not, less_next, less_end}
+use Rattle.texts.proofs.Parts.{less_here, less_not, less_end}
 use Rattle.texts.proofs.compare.less.Goals as goal
 
 pub returns-then-x-y : goal.returns-then-x-y
@@ -13,13 +13,6 @@ pub returns-then-y-x : goal.returns-then-y-x
 returns-then-y-x c =
     let m = Zip-more c.loop-x.x-iterator c.next.new.self c.next.result (c.in-Some.x, c.in-Some.y) c.in-Some.is c.next.ensures.steps in
     sym (less_not _ _ _ _ _ _ _ m.0 m.1 c.if-y-x.true) ∙ c.loop-x.invariant.1
-
-pub loop-x-preserved : goal.loop-x-preserved
-loop-x-preserved c =
-    let m = Zip-more c.loop-x.x-iterator c.next.new.self c.next.result (c.in-Some.x, c.in-Some.y) c.in-Some.is c.next.ensures.steps in
-    let not_before = c.if-x-y.false in
-    let not_after = c.if-y-x.false in
-    (omega (arith, ap length m.0, ap length m.1), sym (less_next _ _ _ _ _ _ _ m.0 m.1 (omega arith)) ∙ c.loop-x.invariant.1)
 
 pub returns : goal.returns
 returns c =

@@ -4,11 +4,6 @@ use Rattle.texts.proofs.Cells.{cells_add}
 use Rattle.texts.proofs.Parts.{cells_whole}
 use Rattle.texts.proofs.pack.pack.Goals as goal
 
-pub returns-then-row-whole : goal.returns-then-row-whole
-returns-then-row-whole c =
-    let f = c.as_chunks.ensures.front in
-    c.pack_whole.ensures ∙ rw f (cells_whole _ _ c.args.text.now (omega arith))
-
 pub returns-else-row-whole : goal.returns-else-row-whole
 returns-else-row-whole c =
     let t : List ℕ = c.args.text.now in
