@@ -1,5 +1,4 @@
 // ONE HAPPENING: an event comes to a server of the group, and what it was and what was answered are kept.
-// Memories and journals are no struct: one that holds a `&mut` needs a clause about each of the three references wherever it is passed.
 ghost use Rattle.std.specs.Prelude.{◌≡◌, ℕ, ◌+◌, ◌^◌, ◌<◌, ◌≤◌, List, length};
 ghost use Rattle.wire.specs.Read.{read_event};
 ghost use Rattle.group.specs.Journals.{world_in};

@@ -1,5 +1,4 @@
-// Texts by names in a part of lent words: the commands of the store, against its definitions. A region is passed as the words that it
-// is: a struct that holds a `&mut` of them would need a clause on its ghost name in each method, beside those that stand here.
+// Texts by names in a part of lent words: the commands of the store, against its definitions.
 #![tactic(auto)]
 
 ghost use Rattle.store.specs.Laws.{RegionLaws};
