@@ -5,36 +5,26 @@
 ghost use Rattle.memory.specs.Program.{EachRight, EachKeeps, EachEnough, FitsOn, ServerStands};
 
 // The program does what the definitions say, after any readable events, whatever kinds of event it takes.
-pub fn right_stands() -> u8
+pub fn right_stands()
     ensures { EachRight }
-{
-    0
-}
+{}
 
 // Where it refuses, not a word of its memory changes.
-pub fn refusal_stands() -> u8
+pub fn refusal_stands()
     ensures { EachKeeps }
-{
-    0
-}
+{}
 
 // Its memory is no longer than was said, and all its numbers are words of 64 bits.
-pub fn memory_stands() -> u8
+pub fn memory_stands()
     ensures { EachEnough }
-{
-    0
-}
+{}
 
 // What the code relies on between events is kept by every readable event.
-pub fn fits_stands() -> u8
+pub fn fits_stands()
     ensures { FitsOn }
-{
-    0
-}
+{}
 
 // All three of the server that runs.
-pub fn server_stands() -> u8
+pub fn server_stands()
     ensures { ServerStands }
-{
-    0
-}
+{}

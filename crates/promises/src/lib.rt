@@ -5,8 +5,6 @@
 ghost use Rattle.memory.specs.Program.{ServerAsIfOne};
 
 // Whatever happens to a group of these servers, the answers can be explained by one server doing one command at a time.
-pub fn server_is_linearizable() -> u8
+pub fn server_is_linearizable()
     ensures { ServerAsIfOne }
-{
-    0
-}
+{}

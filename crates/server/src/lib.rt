@@ -2,7 +2,6 @@
 // its clients can't tell it and the others from one server is proved of this program in crate promises.
 #![tactic(auto)]
 
-mod bytes;
 mod finish;
 mod first;
 pub mod open;

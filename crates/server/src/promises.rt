@@ -3,15 +3,13 @@ ghost use Rattle.memory.specs.Program.{ServerStands};
 ghost use Rattle.server.specs.Answered.{ReachedHolds};
 
 // It answers as the definitions say, what it refuses changes nothing, and its memory is enough.
-pub fn server_stands() -> u8
+pub fn server_stands()
     ensures { ServerStands }
 {
-    0
 }
 
 // Whatever events came, its memory is one that the code can go on from.
-pub fn reached_holds() -> u8
+pub fn reached_holds()
     ensures { ReachedHolds }
 {
-    0
 }

@@ -11,7 +11,6 @@ ghost use Rattle.state.specs.Held.{Held, limits_of, state_of};
 ghost use Rattle.server.specs.Reached.{Reached};
 ghost use Rattle.server.specs.Answered.{Answered, RoomFor, Stepped};
 
-use crate::bytes::are_bytes;
 use crate::refuse::refuse;
 use crate::votes::{on_appended, on_ask, on_timeout, on_vote};
 use crate::writes::{on_append, on_request};
@@ -96,6 +95,5 @@ pub fn step(mem: &mut [u64], event: &[u8], out: &mut [u8]) -> Answer
     ensures reached { Reached (limits_of mem.new) mem.new }
     ensures limits { limits_of mem.new ≡ limits_of mem.old }
 {
-    are_bytes(event);
     act(mem, event, out)
 }

@@ -2,13 +2,13 @@
 use Rattle.std.proofs.Common.{◌≡◌, ℕ, Bool, true, false, ◌&&◌, ltb, leb, Ok, Err, Result, refl, arith}
 use Rattle.std.proofs.lemmas.Bool.Decides.{nat_tests}
 use Rattle.servers.specs.declared.limits.Limits.{Limits}
-use Rattle.servers.specs.declared.limits.Unfit.{Unfit}
-use Rattle.servers.specs.declared.limits.Unfit.TheVariants.{Servers, Me, Clients, Room}
+use Rattle.servers.specs.declared.limits.Limit.{Limit}
+use Rattle.servers.specs.declared.limits.Limit.TheVariants.{Servers, Me, Clients, Room}
 use Rattle.servers.specs.Store.{pick}
 use Rattle.servers.specs.Opened.{OpenedIsGood}
 
 -- what was not refused passed the test
-passed : (b : Bool) (x : Result Limits Unfit) (u : Unfit) (l : Limits) → pick b x (Err u) ≡ Ok l → (b ≡ true) × (x ≡ Ok l)
+passed : (b : Bool) (x : Result Limits Limit) (u : Limit) (l : Limits) → pick b x (Err u) ≡ Ok l → (b ≡ true) × (x ≡ Ok l)
 passed true x u l h = (refl, h)
 passed false x u l h = let z : ◌≡◌ {A = ℕ} 0 1 = cc in absurd (omega arith)
 

@@ -1,14 +1,14 @@
 -- The limits of the code, and those of the definitions that they stand for.
 use Rattle.std.specs.Prelude.{◌≡◌, ℕ, Bool, ◌&&◌, Ok, Err, Result, nat_le, nat_lt}
 use Rattle.servers.specs.declared.limits.Limits.{Limits}
-use Rattle.servers.specs.declared.limits.Unfit.{Unfit}
-use Rattle.servers.specs.declared.limits.Unfit.TheVariants.{Servers, Me, Clients, Room}
+use Rattle.servers.specs.declared.limits.Limit.{Limit}
+use Rattle.servers.specs.declared.limits.Limit.TheVariants.{Servers, Me, Clients, Room}
 use Rattle.servers.specs.Store.{pick}
 use Rattle.servers.specs.Server as server
 use Rattle.servers.specs.Promise.{GoodLimits}
 
 -- the first limit out of its range: 2 to 16 servers, this one of them, 1 to 4,096 clients, room for 1 to 65,536 entries
-abbrev pub opened : ℕ → ℕ → ℕ → ℕ → Result Limits Unfit
+abbrev pub opened : ℕ → ℕ → ℕ → ℕ → Result Limits Limit
 opened s m c r =
     pick (nat_le 2 s && nat_le s 16)
     (pick (nat_lt m s)

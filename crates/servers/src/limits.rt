@@ -3,6 +3,8 @@ ghost use Rattle.std.specs.Prelude.{◌≡◌, ℕ, ◌+◌, ◌/◌, ◌<◌, �
 ghost use Rattle.servers.specs.Store.{pick};
 ghost use Rattle.servers.specs.Opened.{opened, OpenedIsGood};
 
+use std::fmt;
+
 #[derive(Clone, Copy, PartialEq, Eq, Debug)]
 pub struct Limits {
     pub servers: u64,
@@ -11,13 +13,25 @@ pub struct Limits {
     pub room: u64,
 }
 
-// The limit that is out of its range.
+// One of the limits.
 #[derive(Clone, Copy, PartialEq, Eq, Debug)]
-pub enum Unfit {
+pub enum Limit {
     Servers,
     Me,
     Clients,
     Room,
+}
+
+// As a command line spells it.
+impl fmt::Display for Limit {
+    fn fmt<W: fmt::Write>(&self, f: &mut fmt::Formatter<W>) -> fmt::Result {
+        f.write_str(match self {
+            Limit::Servers => "SERVERS",
+            Limit::Me => "ME",
+            Limit::Clients => "CLIENTS",
+            Limit::Room => "ROOM",
+        })
+    }
 }
 
 impl Limits {
@@ -36,20 +50,20 @@ impl Limits {
     pub const LONGEST_TEXT: usize = 256;
 
     // The limits, or the first of them that is out of its range.
-    pub fn new(servers: u64, me: u64, clients: u64, room: u64) -> Result<Limits, Unfit>
+    pub fn new(servers: u64, me: u64, clients: u64, room: u64) -> Result<Limits, Limit>
         ensures { result ≡ opened servers me clients room }
     {
-        if servers < Self::LEAST_SERVERS || servers > Self::MOST_SERVERS {
-            return Err(Unfit::Servers);
+        if !(Self::LEAST_SERVERS..=Self::MOST_SERVERS).contains(&servers) {
+            return Err(Limit::Servers);
         }
         if me >= servers {
-            return Err(Unfit::Me);
+            return Err(Limit::Me);
         }
-        if clients < 1 || clients > Self::MOST_CLIENTS {
-            return Err(Unfit::Clients);
+        if !(1..=Self::MOST_CLIENTS).contains(&clients) {
+            return Err(Limit::Clients);
         }
-        if room < 1 || room > Self::MOST_ROOM {
-            return Err(Unfit::Room);
+        if !(1..=Self::MOST_ROOM).contains(&room) {
+            return Err(Limit::Room);
         }
         Ok(Limits {
             servers,
@@ -68,8 +82,6 @@ impl Limits {
 }
 
 // Limits that were opened are the good ones that the promises speak of.
-pub fn opened_is_good() -> u8
+pub fn opened_is_good()
     ensures { OpenedIsGood }
-{
-    0
-}
+{}

@@ -3,80 +3,48 @@ ghost use Rattle.std.specs.Prelude.{IfOk};
 ghost use Rattle.servers.specs.Opened.{limits_of};
 ghost use Rattle.servers.specs.Promise.{GoodLimits, thin};
 
-use servers::limits::{Limits, Unfit};
+use servers::limits::{Limit, Limits};
+use std::error::Error;
 use std::fmt;
 
-// Which word of the command line.
-#[derive(Clone, Copy, PartialEq, Eq, Debug)]
-pub enum Word {
-    Servers,
-    Me,
-    Clients,
-    Room,
-}
-
+// What is wrong with a word.
 #[derive(Clone, Copy, PartialEq, Eq, Debug)]
 pub enum Complaint {
-    NotANumber(Word),
-    OutOfRange(Word),
-}
-
-impl fmt::Display for Word {
-    fn fmt<W: fmt::Write>(&self, f: &mut fmt::Formatter<W>) -> fmt::Result {
-        let name = match self {
-            Word::Servers => "SERVERS",
-            Word::Me => "ME",
-            Word::Clients => "CLIENTS",
-            Word::Room => "ROOM",
-        };
-        write!(f, "{name}")
-    }
+    NotANumber(Limit),
+    OutOfRange(Limit),
 }
 
 impl fmt::Display for Complaint {
     fn fmt<W: fmt::Write>(&self, f: &mut fmt::Formatter<W>) -> fmt::Result {
         match self {
-            Complaint::NotANumber(word) => write!(f, "{word} is not a whole number below 2^64"),
-            Complaint::OutOfRange(Word::Servers) => write!(f, "SERVERS must be 2 to 16"),
-            Complaint::OutOfRange(Word::Me) => write!(
+            Complaint::NotANumber(limit) => write!(f, "{limit} is not a whole number below 2^64"),
+            Complaint::OutOfRange(Limit::Servers) => write!(f, "SERVERS must be 2 to 16"),
+            Complaint::OutOfRange(Limit::Me) => write!(
                 f,
                 "ME must be below SERVERS (servers are numbered from 0)"
             ),
-            Complaint::OutOfRange(Word::Clients) => write!(f, "CLIENTS must be 1 to 4096"),
-            Complaint::OutOfRange(Word::Room) => write!(f, "ROOM must be 1 to 65536"),
+            Complaint::OutOfRange(Limit::Clients) => write!(f, "CLIENTS must be 1 to 4096"),
+            Complaint::OutOfRange(Limit::Room) => write!(f, "ROOM must be 1 to 65536"),
         }
     }
 }
 
-fn number(word: Word, text: &str) -> Result<u64, Complaint> {
-    match text.parse::<u64>() {
-        Ok(n) => Ok(n),
-        Err(_) => Err(Complaint::NotANumber(word)),
-    }
-}
+impl Error for Complaint {}
 
-// The limits that these numbers are, or the first that is out of its range.
-fn fitted(servers: u64, me: u64, clients: u64, room: u64) -> Result<Limits, Complaint>
-    ensures { IfOk result (λ l. GoodLimits thin (limits_of thin l)) }
-{
-    match Limits::new(servers, me, clients, room) {
-        Ok(l) => Ok(l),
-        Err(Unfit::Servers) => Err(Complaint::OutOfRange(Word::Servers)),
-        Err(Unfit::Me) => Err(Complaint::OutOfRange(Word::Me)),
-        Err(Unfit::Clients) => Err(Complaint::OutOfRange(Word::Clients)),
-        Err(Unfit::Room) => Err(Complaint::OutOfRange(Word::Room)),
-    }
+fn number(limit: Limit, text: &str) -> Result<u64, Complaint> {
+    text.parse::<u64>()
+        .map_err(|_| Complaint::NotANumber(limit))
 }
 
 // The limits that four words say, or the first complaint.
 pub fn limits(servers: &str, me: &str, clients: &str, room: &str) -> Result<Limits, Complaint>
     ensures { IfOk result (λ l. GoodLimits thin (limits_of thin l)) }
 {
-    let servers = number(Word::Servers, servers)?;
-    let me = number(Word::Me, me)?;
-    let clients = number(Word::Clients, clients)?;
-    let room = number(Word::Room, room)?;
-    fitted(servers, me, clients, room)
+    let servers = number(Limit::Servers, servers)?;
+    let me = number(Limit::Me, me)?;
+    let clients = number(Limit::Clients, clients)?;
+    let room = number(Limit::Room, room)?;
+    Limits::new(servers, me, clients, room).map_err(Complaint::OutOfRange)
 }
 
 #[cfg(test)]

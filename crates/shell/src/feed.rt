@@ -2,6 +2,7 @@
 ghost use Rattle.std.specs.Prelude.{◌≡◌, ℕ, ◌+◌, ◌-◌, ◌≤◌, List, ◌++◌, length, take, drop, IfOk, Ok, Err, vec_len, ◌==◌};
 ghost use Rattle.servers.specs.Store.{pick};
 
+use std::error::Error;
 use std::io::Read;
 use std::{fmt, io};
 
@@ -10,9 +11,7 @@ pub fn keep(buf: &mut [u8], from: usize, to: usize)
     requires { (from ≤ to) × (to ≤ length buf.old) }
     ensures { buf.new ≡ take (to - from) (drop from buf.old) ++ drop (to - from) buf.old }
 {
-    for i in 0..to - from {
-        buf[i] = buf[from + i];
-    }
+    buf.copy_within(from..to, 0);
 }
 
 // Reads what comes into the part that is free, which is made larger if there is none. Says how many bytes are there then.
@@ -20,32 +19,11 @@ pub fn fill(input: &mut impl Read, buf: &mut Vec<u8>, filled: usize) -> io::Resu
     requires { filled ≤ vec_len buf.old }
     ensures { IfOk result (λ n. (filled ≤ n) × (n ≤ vec_len buf.new)) }
 {
-    let len = buf.len();
-    if filled >= len {
-        buf.resize(len.saturating_mul(2).saturating_add(4_096), 0)?;
-    }
-    if filled >= buf.len() {
-        return Ok(filled);
+    if filled == buf.len() {
+        buf.resize(filled.saturating_mul(2).saturating_add(4_096), 0)?;
     }
     let more = input.read(&mut buf[filled..])?;
     Ok(filled + more)
-}
-
-// The same, if more is wanted; else what is there stays as it is.
-pub fn fill_if(
-    wanted: bool,
-    input: &mut impl Read,
-    buf: &mut Vec<u8>,
-    filled: usize,
-) -> io::Result<usize>
-    requires { filled ≤ vec_len buf.old }
-    ensures { IfOk result (λ n. (filled ≤ n) × (n ≤ vec_len buf.new)) }
-{
-    if wanted {
-        fill(input, buf, filled)
-    } else {
-        Ok(filled)
-    }
 }
 
 // An input ended inside a record: how many of its bytes had come, the length's eight among them.
@@ -63,6 +41,8 @@ impl fmt::Display for CutOff {
         )
     }
 }
+
+impl Error for CutOff {}
 
 // What an input that has ended leaves behind its last whole record: nothing, or a record that is cut off.
 pub fn ended(left: usize) -> Result<(), CutOff>

@@ -4,50 +4,38 @@ ghost use Rattle.wire.specs.Codec.{WrittenIsBytes, RoundTrip, Injective, Written
 ghost use Rattle.wire.specs.Sizes.{EventFits, AnswerFits, AnswerIsFine};
 
 // What is written is bytes; reading it gives the event back, so no two events have the same bytes.
-pub fn round_trip_stands() -> u8
+pub fn round_trip_stands()
     ensures bytes { WrittenIsBytes }
     ensures back { RoundTrip }
     ensures apart { Injective }
-{
-    0
-}
+{}
 
 // Bytes that are read as an event are that event's, and what is read is readable.
-pub fn written_back_stands() -> u8
+pub fn written_back_stands()
     ensures bytes { WrittenBack }
     ensures event { ReadIsReadable }
-{
-    0
-}
+{}
 
 // The place of a refusal is the length of the longest beginning that some event has.
-pub fn place_is_exact() -> u8
+pub fn place_is_exact()
     ensures { PlaceIsExact }
-{
-    0
-}
+{}
 
 // What is written of an answer is bytes; reading it gives the answer back, so no two answers have the same bytes.
-pub fn answers_stand() -> u8
+pub fn answers_stand()
     ensures bytes { AnswerIsBytes }
     ensures back { AnswerRoundTrip }
     ensures apart { AnswersApart }
-{
-    0
-}
+{}
 
 // A letter can be cut out by its length and handed on unread: its bytes are those of the event.
-pub fn letters_hand_on() -> u8
+pub fn letters_hand_on()
     ensures { LettersHandOn }
-{
-    0
-}
+{}
 
 // How many bytes an event that passes its checks has at most, and an answer; and what is answered can be read back.
-pub fn sizes_stand() -> u8
+pub fn sizes_stand()
     ensures event { EventFits }
     ensures answer { AnswerFits }
     ensures fine { AnswerIsFine }
-{
-    0
-}
+{}

@@ -1,24 +1,12 @@
--- What the code's answer is: its number and values, and the answer of the definitions that it means with the bytes that were
+-- What the code's answer is: how many bytes it has, and the answer of the definitions that it means with the bytes that were
 -- written. Assumes nothing: these are definitions.
-use Rattle.std.specs.Prelude.{◌≡◌, ℕ, true, List, [], ◌∷◌, ◌++◌, length, drop}
+use Rattle.std.specs.Prelude.{◌≡◌, ℕ, true, List, ◌++◌, length, drop}
 use Rattle.servers.specs.Server as server
 use Rattle.wire.specs.Answers.{fine_answer}
 use Rattle.wire.specs.Read.{Read, got, stuck, and_then, read_number, read_saids, read_letters}
 use Rattle.wire.specs.Write.{write_answer}
 use Rattle.wire_write.specs.declared.answer.Answer.{Answer}
 use Rattle.wire_write.specs.declared.answer.Answer.TheVariants.{Refused, NotLeader, Does}
-
--- refused, doesn't lead, does
-abbrev pub answer_number : Answer → ℕ
-answer_number (Refused j k) = 0
-answer_number NotLeader = 1
-answer_number (Does n m len) = 2
-
--- refusal and place; none; how many are told, how many letters, how many bytes
-abbrev pub answer_values : Answer → List ℕ
-answer_values (Refused j k) = j ∷ (k ∷ [])
-answer_values NotLeader = []
-answer_values (Does n m len) = n ∷ (m ∷ (len ∷ []))
 
 -- how many bytes it has
 abbrev pub answer_length : Answer → ℕ

@@ -8,7 +8,7 @@ ghost use Rattle.wire_write.specs.Put.{Room, Wrote};
 
 use crate::writer::Writer;
 
-#[derive(Clone, Copy)]
+#[derive(Clone, Copy, PartialEq, Eq, Debug)]
 pub enum Answer {
     // which refusal, and the place
     Refused(u8, u64),
@@ -17,14 +17,16 @@ pub enum Answer {
     Does(u64, u64, usize),
 }
 
-// How many bytes an answer has.
-pub fn answer_len(answer: Answer) -> usize
-    ensures { result ≡ answer_length answer }
-{
-    match answer {
-        Answer::Refused(..) => 10,
-        Answer::NotLeader => 1,
-        Answer::Does(_, _, len) => len,
+impl Answer {
+    // How many bytes it has.
+    pub fn len(self) -> usize
+        ensures { result ≡ answer_length self }
+    {
+        match self {
+            Answer::Refused(..) => 10,
+            Answer::NotLeader => 1,
+            Answer::Does(_, _, len) => len,
+        }
     }
 }
 

@@ -2,8 +2,6 @@
 ghost use Rattle.wire_write.specs.Answers.{WrittenMeans};
 
 // An answer that was written means itself.
-pub fn written_answers_stand() -> u8
+pub fn written_answers_stand()
     ensures { WrittenMeans }
-{
-    0
-}
+{}

@@ -1,7 +1,7 @@
 // A writer: bytes, numbers and texts one after the other into lent bytes, each at the place after those before it. Nothing else is changed.
 ghost use Rattle.std.specs.Prelude.{◌≡◌, ◌+◌, ◌≤◌, [], ◌∷◌, length};
 ghost use Rattle.texts.specs.Means.{perhaps_of};
-ghost use Rattle.wire.specs.Write.{bytes_of, write_bool, write_number, write_perhaps, write_text};
+ghost use Rattle.wire.specs.Write.{write_bool, write_number, write_perhaps, write_text};
 ghost use Rattle.wire_write.specs.Put.{Room, Wrote};
 
 // What is written goes to `at`.
@@ -9,13 +9,6 @@ ghost use Rattle.wire_write.specs.Put.{Room, Wrote};
 pub struct Writer<'a> {
     pub out: &'a mut [u8],
     pub at: usize,
-}
-
-// Eight bytes, the lowest first.
-fn number_bytes(x: u64) -> [u8; 8]
-    ensures { result ≡ bytes_of 8 x }
-{
-    x.to_le_bytes()
 }
 
 impl Writer<'_> {
@@ -39,12 +32,13 @@ impl Writer<'_> {
         self.at = end;
     }
 
+    // Eight bytes, the lowest first.
     pub fn number(&mut self, x: u64)
         requires { Room 8 self.old }
         ensures bytes { Wrote (write_number x) self.old self.new }
         ensures at { self.new.at ≡ self.old.at + 8 }
     {
-        self.bytes(&number_bytes(x));
+        self.bytes(&x.to_le_bytes());
     }
 
     // A boolean is one byte.
@@ -64,5 +58,20 @@ impl Writer<'_> {
     {
         self.number(t.len() as u64);
         self.bytes(t);
+    }
+
+    // A text or none.
+    pub fn perhaps(&mut self, text: Option<&[u8]>)
+        requires { Room (length (write_perhaps (perhaps_of text))) self.old }
+        ensures bytes { Wrote (write_perhaps (perhaps_of text.entry)) self.old self.new }
+        ensures at { self.new.at ≡ self.old.at + length (write_perhaps (perhaps_of text.entry)) }
+    {
+        match text {
+            Some(t) => {
+                self.byte(1);
+                self.text(t);
+            }
+            None => self.byte(0),
+        }
     }
 }
