@@ -4,13 +4,12 @@ use Rattle.std.proofs.lemmas.List.{append_assoc, take_all, length-drop}
 use Rattle.servers.specs.Server.{above}
 use Rattle.wire.specs.Write.{write_number, write_command, write_entry, write_entries}
 use Rattle.raft_log.specs.Rows.{row_in, log_in, command_in}
-use Rattle.raft_log.specs.Places.{row_place, entry_in}
+use Rattle.raft_log.specs.Places.{words_of, entry_in}
 use Rattle.raft_log.specs.declared.row.Numbers.{Numbers}
 use Rattle.raft_log.specs.Numbers.{numbers_in}
 use Rattle.raft_log.specs.Bytes.{Sound, SoundRow, write_numbers}
 use Rattle.raft_log.proofs.Places.{above_in, above_in_none}
-use Rattle.raft_log.proofs.Found.{row_part}
-use Rattle.raft_log.proofs.Written.{length_part}
+use Rattle.raft_log.proofs.Lent.{Wide, row_lent}
 
 -- the numbers of the row, and the bytes of its command
 abbrev pub numbers_bytes : ℕ → List ℕ → List ℕ
@@ -53,9 +52,18 @@ pub room_both : (i at n : ℕ) (ws : List ℕ) → at + length (write_entry (row
     → at + length (numbers_bytes i ws ++ write_command (command_in (drop 4 ws))) ≤ n
 room_both i at n ws h = let e = ap length (entry_bytes i ws) in omega arith
 
--- the row of an index as the code lends it
-pub lent_row : (at i n : ℕ) (ws : List ℕ) → at ≡ row_place i → 0 < i → i ≤ n → 80 * n ≤ length ws → Sound n ws
-    → (length (take (at + 80 - at) (drop at ws)) ≡ 80) × SoundRow (take (at + 80 - at) (drop at ws))
-lent_row at i n ws e some most there s =
-    let p = row_part at i ws e in
-    (ap length p ∙ length_part (row_place i) 80 ws (omega arith), subst (λ (x : List ℕ). SoundRow x) (sym p) (s i some most))
+-- the row that is lent stands at its index, and can be written
+pub lent_sound : (i : ℕ) (rows : List (List ℕ)) → Wide rows → Sound (length rows) (words_of rows) → i < length rows
+    → SoundRow (get_or rows i [])
+lent_sound i rows w s h =
+    let z : i + 1 - 1 ≡ i = omega arith in
+    subst (λ (x : List ℕ). SoundRow x)
+    (row_lent (i + 1) rows w (omega arith) (omega arith) ∙ ap (λ (j : ℕ). get_or rows j []) z)
+    (s (i + 1) (omega arith) (omega arith))
+
+-- and its entry is the one at that index
+pub lent_entry : (i : ℕ) (rows : List (List ℕ)) → Wide rows → 0 < i → i ≤ length rows
+    → row_in (i - 1 + 1) (get_or rows (i - 1) []) ≡ entry_in i (words_of rows)
+lent_entry i rows w some most =
+    let z : i - 1 + 1 ≡ i = omega arith in
+    ap (λ (j : ℕ). row_in j (get_or rows (i - 1) [])) z ∙ ap (row_in i) (sym (row_lent i rows w some most))

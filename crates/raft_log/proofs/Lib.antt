@@ -1,6 +1,7 @@
 pub mod Places
 pub mod Rows
 pub mod Regions
+pub mod Lent
 pub mod Found
 pub mod Written
 pub mod Rooms

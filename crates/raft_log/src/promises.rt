@@ -1,7 +1,7 @@
 // What is promised of a log in words, as a contract: its proof is the theorems'.
 ghost use Rattle.raft_log.specs.Promises.{AboveAndUpTo, AtItsIndex, DueInOrder, FirstRows, NoneElsewhere, ReadBack, WordsFit};
 
-pub fn rows_stand() -> u8
+pub fn rows_stand()
     ensures back { ReadBack }
     ensures fit { WordsFit }
     ensures found { AtItsIndex }
@@ -10,5 +10,4 @@ pub fn rows_stand() -> u8
     ensures parts { AboveAndUpTo }
     ensures due { DueInOrder }
 {
-    0
 }

@@ -11,6 +11,9 @@ use wire_read::parts::Command;
 // How many words a row has.
 pub const ROW: usize = 80;
 
+// A row as it is lent to those who read a log.
+pub type LogRow = [u64; ROW];
+
 // The numbers of an entry: its term, the server that took it, the client and the client's number for it.
 #[derive(Clone, Copy)]
 pub struct Numbers {

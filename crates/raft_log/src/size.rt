@@ -1,11 +1,12 @@
 // How many bytes entries take in a message, told before they are written: a letter says its length first.
-ghost use Rattle.std.specs.Prelude.{◌≡◌, ℕ, ◌+◌, ◌-◌, ◌*◌, ◌^◌, ◌<◌, ◌≤◌, length};
+ghost use Rattle.std.specs.Prelude.{◌≡◌, ℕ, ◌+◌, ◌-◌, ◌*◌, ◌<◌, ◌≤◌, length};
 ghost use Rattle.servers.specs.Server.{above};
 ghost use Rattle.wire.specs.Write.{write_entry, write_entries};
-ghost use Rattle.raft_log.specs.Rows.{row_in, log_in};
+ghost use Rattle.raft_log.specs.Rows.{row_in};
+ghost use Rattle.raft_log.specs.Places.{words_of, log_of};
 ghost use Rattle.raft_log.specs.Bytes.{Sound, SoundRow, expected_size, last_size};
 
-use crate::row::{ROW, place};
+use crate::row::LogRow;
 
 // By a command's number and the first word of what it expects.
 fn expected_size(tag: u64, word: u64) -> usize
@@ -31,9 +32,8 @@ fn last_size(tag: u64, word: u64) -> usize
 }
 
 // No entry takes more than 635 bytes.
-fn entry_size(row: &[u64]) -> usize
-    requires size { length row.now ≡ 80 }
-    requires sound { SoundRow row.now }
+fn entry_size(row: &LogRow) -> usize
+    requires { SoundRow row.now }
     ensures exact { (i : ℕ) → result ≡ length (write_entry (row_in i row.now)) }
     ensures most { result ≤ 635 }
 {
@@ -41,20 +41,16 @@ fn entry_size(row: &[u64]) -> usize
     row[5] as usize + 42 + expected_size(tag, row[14]) + last_size(tag, row[47])
 }
 
-// The bytes of the entries above an index, as `put_entries` writes them.
-pub fn entries_size(region: &[u64], len: usize, index: usize) -> usize
-    requires low { len ≤ 2 ^ 32 }
-    requires there { 80 * len ≤ length region.now }
-    requires sound { Sound len region.now }
-    ensures exact { result ≡ length (write_entries (above index (log_in len region.now))) }
-    ensures most { result ≤ 635 * (len - index) }
+// The bytes of the entries above an index, as `write_entries` writes them.
+pub fn entries_size(log: &[LogRow], index: usize) -> usize
+    requires { Sound (length log.now) (words_of log.now) }
+    ensures exact { result ≡ length (write_entries (above index (log_of log.now))) }
+    ensures most { result ≤ 635 * (length log.now - index) }
 {
+    let from = index.min(log.len());
     let mut total = 0;
-    let mut left = len;
-    while left > index {
-        let row = place(left);
-        total += entry_size(&region[row..row + ROW]);
-        left -= 1;
+    for row in &log[from..] {
+        total += entry_size(row);
     }
     total
 }

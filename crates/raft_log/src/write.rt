@@ -1,14 +1,14 @@
 // Entries as the bytes of a message, straight from their rows, the last first: what a leader sends.
-ghost use Rattle.std.specs.Prelude.{◌≡◌, ℕ, ◌+◌, ◌-◌, ◌*◌, ◌^◌, ◌<◌, ◌≤◌, [], ◌∷◌, ◌++◌, length, slice_index};
+ghost use Rattle.std.specs.Prelude.{◌≡◌, ℕ, ◌+◌, ◌-◌, ◌<◌, ◌≤◌, [], ◌∷◌, ◌++◌, length, slice_index};
 ghost use Rattle.servers.specs.Server.{above};
 ghost use Rattle.texts.specs.Words.{text_in, perhaps_in};
 ghost use Rattle.wire.specs.Write.{write_number, write_command, write_entry, write_entries};
-ghost use Rattle.raft_log.specs.Rows.{row_in, log_in, command_in};
-ghost use Rattle.raft_log.specs.Places.{entry_in};
+ghost use Rattle.raft_log.specs.Rows.{row_in, command_in};
+ghost use Rattle.raft_log.specs.Places.{words_of, log_of};
 ghost use Rattle.wire_write.specs.Put.{Writes};
 ghost use Rattle.raft_log.specs.Bytes.{Sound, SoundCommand, SoundRow, write_numbers, write_expected, write_last};
 
-use crate::row::{Numbers, ROW, place};
+use crate::row::{LogRow, Numbers};
 use wire_write::put::{write_byte, write_number};
 use wire_write::words::{write_perhaps_in, write_text_in};
 
@@ -68,30 +68,24 @@ fn write_numbers(out: &mut [u8], at: usize, numbers: Numbers, index: u64) -> usi
 }
 
 // The entry of a row, which stands at that index.
-fn write_entry(out: &mut [u8], at: usize, row: &[u64], index: u64) -> usize
-    requires size { length row.now ≡ 80 }
+fn write_entry(out: &mut [u8], at: usize, row: &LogRow, index: u64) -> usize
     requires sound { SoundRow row.now }
     requires room { at + length (write_entry (row_in index row.now)) ≤ length out.old }
     ensures { Writes at (write_entry (row_in index row.now)) out.old out.new result }
 {
     let next = write_numbers(out, at, Numbers::read(row), index);
-    write_command(out, next, &row[4..80])
+    write_command(out, next, &row[4..])
 }
 
-// The entries above an index, of a log of `len` entries. The other bytes stay, and the place after the entries is told.
-pub fn write_entries(out: &mut [u8], at: usize, region: &[u64], len: usize, index: usize) -> usize
-    requires low { len ≤ 2 ^ 32 }
-    requires there { 80 * len ≤ length region.now }
-    requires sound { Sound len region.now }
-    requires room { at + length (write_entries (above index (log_in len region.now))) ≤ length out.old }
-    ensures { Writes at (write_entries (above index (log_in len region.now))) out.old out.new result }
+// The entries above an index. The other bytes stay, and the place after the entries is told.
+pub fn write_entries(out: &mut [u8], at: usize, log: &[LogRow], index: usize) -> usize
+    requires sound { Sound (length log.now) (words_of log.now) }
+    requires room { at + length (write_entries (above index (log_of log.now))) ≤ length out.old }
+    ensures { Writes at (write_entries (above index (log_of log.now))) out.old out.new result }
 {
     let mut next = at;
-    let mut left = len;
-    while left > index {
-        let row = place(left);
-        next = write_entry(out, next, &region[row..row + ROW], left as u64);
-        left -= 1;
+    for i in (index..log.len()).rev() {
+        next = write_entry(out, next, &log[i], i as u64 + 1);
     }
     next
 }

@@ -47,9 +47,12 @@ written f g e m h k =
 pub stays : (m : List ℕ) → Held m → Becomes m m (state_of m)
 stays m h = record { held = h; state = refl; limits = refl; region = refl }
 
--- the same state, said otherwise
+-- the same state and region, said otherwise
+pub turns_said : (m m' : List ℕ) (s t : State) (r u : List ℕ) → s ≡ t → r ≡ u → Turns m m' s r → Turns m m' t u
+turns_said m m' s t r u e k a = record { held = a.held; state = a.state ∙ e; limits = a.limits; region = a.region ∙ k }
+
 pub said : (m m' : List ℕ) (s t : State) → s ≡ t → Becomes m m' s → Becomes m m' t
-said m m' s t e b = subst (λ (z : State). Becomes m m' z) e b
+said m m' s t e b = turns_said m m' s t (region_in m) (region_in m) e refl b
 
 -- chain: one change after the other
 pub next_then : (f : Limits → State → State) (m m₁ m₂ : List ℕ) (s : State)
@@ -62,16 +65,20 @@ next_then f m m₁ m₂ s a b =
       region = b.region ∙ a.region;
     }
 
--- one change after the other, by what the second makes of any state, and where they lead together
-pub then_to : (f : State → State) (m m₁ m₂ : List ℕ) (s t : State)
-    → Becomes m m₁ s → Becomes m₁ m₂ (f (state_of m₁)) → f s ≡ t → Becomes m m₂ t
-then_to f m m₁ m₂ s t a b e =
+-- one change after the other, by what the second makes of any state, and where they lead together; the second leaves the region
+pub turns_then : (f : State → State) (m m₁ m₂ : List ℕ) (s t : State) (r u : List ℕ)
+    → Turns m m₁ s r → Becomes m₁ m₂ (f (state_of m₁)) → f s ≡ t → r ≡ u → Turns m m₂ t u
+turns_then f m m₁ m₂ s t r u a b e k =
     record {
       held = b.held;
       state = b.state ∙ (ap f a.state ∙ e);
       limits = b.limits ∙ a.limits;
-      region = b.region ∙ a.region;
+      region = b.region ∙ (a.region ∙ k);
     }
+
+pub then_to : (f : State → State) (m m₁ m₂ : List ℕ) (s t : State)
+    → Becomes m m₁ s → Becomes m₁ m₂ (f (state_of m₁)) → f s ≡ t → Becomes m m₂ t
+then_to f m m₁ m₂ s t a b e = turns_then f m m₁ m₂ s t (region_in m) (region_in m) a b e refl
 
 -- top: the memory is what the program of the promises leaves
 pub called_from : (m m' : List ℕ) (e : Event)

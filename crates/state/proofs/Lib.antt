@@ -5,3 +5,4 @@ pub mod PeerWords
 pub mod PutBack
 pub mod Sessions
 pub mod Holding
+pub mod Lent

@@ -20,35 +20,14 @@ ghost use Rattle.memory.specs.Layout.{servers_in, me_in, room_in};
 ghost use Rattle.state.specs.Held.{Held, Becomes, limits_of, state_of};
 ghost use Rattle.state.specs.States.{with_kind, calmed};
 
-const ME: usize = 2;
+use crate::layout::{APPLIED, COMMIT, LEADER, LENGTH, ME, ROLE, SEND, TERM, VOTE, VOTES};
 
-const TERM: usize = 5;
-
-const VOTE: usize = 6;
-
-const LEADER: usize = 7;
-
-const COMMIT: usize = 8;
-
-const APPLIED: usize = 9;
-
-const LENGTH: usize = 10;
-
-const ROLE: usize = 11;
-
-const VOTES: usize = 12;
-
-const SEND: usize = 13;
-
-// A server follows, wants to lead, or leads.
-pub struct Role;
-
-impl Role {
-    pub const FOLLOWER: u64 = 0;
-
-    pub const CANDIDATE: u64 = 1;
-
-    pub const LEADER: u64 = 2;
+// A server follows, wants to lead, or leads: what its word says.
+#[derive(Clone, Copy, PartialEq, Eq, Debug)]
+pub enum Role {
+    Follower = 0,
+    Candidate = 1,
+    Leader = 2,
 }
 
 pub fn term(mem: &[u64]) -> u64
@@ -89,14 +68,14 @@ pub fn is_leader(mem: &[u64]) -> bool
     requires held { Held mem.now }
     ensures { result ≡ ((state_of mem.now).kind == 2) }
 {
-    mem[ROLE] == Role::LEADER
+    mem[ROLE] == Role::Leader as u64
 }
 
 pub fn is_candidate(mem: &[u64]) -> bool
     requires held { Held mem.now }
     ensures { result ≡ ((state_of mem.now).kind == 1) }
 {
-    mem[ROLE] == Role::CANDIDATE
+    mem[ROLE] == Role::Candidate as u64
 }
 
 // Whether the server knows no leader, and gave its vote to nobody but h.
@@ -117,7 +96,7 @@ pub fn take_term(mem: &mut [u64], t: u64)
     mem[TERM] = t;
     mem[VOTE] = 0;
     mem[LEADER] = 0;
-    mem[ROLE] = Role::FOLLOWER;
+    mem[ROLE] = Role::Follower as u64;
 }
 
 pub fn vote_for(mem: &mut [u64], h: u64)
@@ -134,7 +113,7 @@ pub fn follow(mem: &mut [u64], h: u64)
     ensures { Becomes mem.old mem.new (following h (state_of mem.old)) }
 {
     mem[LEADER] = h + 1;
-    mem[ROLE] = Role::FOLLOWER;
+    mem[ROLE] = Role::Follower as u64;
 }
 
 // A candidate of the next term, with its own vote.
@@ -144,17 +123,17 @@ pub fn stand(mem: &mut [u64])
     ensures { Becomes mem.old mem.new (wants (limits_of mem.old) (state_of mem.old)) }
 {
     let me = mem[ME];
-    mem[TERM] = mem[TERM] + 1;
+    mem[TERM] += 1;
     mem[VOTE] = me + 1;
     mem[VOTES] = 1 << me;
-    mem[ROLE] = Role::CANDIDATE;
+    mem[ROLE] = Role::Candidate as u64;
 }
 
 pub fn lead(mem: &mut [u64])
     requires held { Held mem.old }
     ensures { Becomes mem.old mem.new (with_kind 2 (state_of mem.old)) }
 {
-    mem[ROLE] = Role::LEADER;
+    mem[ROLE] = Role::Leader as u64;
 }
 
 // What a restart sets back in the head.
@@ -162,7 +141,7 @@ pub fn calm(mem: &mut [u64])
     requires held { Held mem.old }
     ensures { Becomes mem.old mem.new (calmed (limits_of mem.old) (state_of mem.old)) }
 {
-    mem[ROLE] = Role::FOLLOWER;
+    mem[ROLE] = Role::Follower as u64;
     mem[VOTES] = 0;
     mem[SEND] = 0;
 }
@@ -190,7 +169,7 @@ pub fn set_send(mem: &mut [u64], send: bool)
     requires held { Held mem.old }
     ensures { Becomes mem.old mem.new (with_send send (state_of mem.old)) }
 {
-    mem[SEND] = send as u64;
+    mem[SEND] = u64::from(send);
 }
 
 pub fn must_send(mem: &[u64]) -> bool

@@ -3,18 +3,9 @@ ghost use Rattle.std.specs.Prelude.{◌≡◌, ℕ, ◌+◌, ◌*◌, ◌/◌, �
 ghost use Rattle.memory.specs.Layout.{servers_in, log_at, store_at, cache_at};
 ghost use Rattle.state.specs.Held.{Held, limits_held};
 
+use crate::layout::{CLIENTS, HEAD, ME, ROOM, SERVERS, SESSION};
+use raft_log::row::ROW;
 use servers::limits::Limits;
-
-// How many words the head has, and where the limits stand in it.
-pub const HEAD: usize = 14;
-
-const SERVERS: usize = 1;
-
-const ME: usize = 2;
-
-const CLIENTS: usize = 3;
-
-const ROOM: usize = 4;
 
 pub fn limits(mem: &[u64]) -> Limits
     requires held { Held mem.now }
@@ -40,7 +31,7 @@ pub fn is_majority(limits: Limits, many: u32) -> bool
     requires { limits.servers ≤ 16 }
     ensures { result ≡ nat_lt (limits.servers / 2) many }
 {
-    limits.majority() as u32 <= many
+    limits.majority() <= u64::from(many)
 }
 
 // Where the clients' sessions, the log and the store begin.
@@ -55,12 +46,12 @@ pub fn log_at(mem: &[u64]) -> usize
     requires held { Held mem.now }
     ensures { result ≡ log_at mem.now }
 {
-    HEAD + 2 * mem[SERVERS] as usize + 68 * mem[CLIENTS] as usize
+    sessions_at(mem) + SESSION * mem[CLIENTS] as usize
 }
 
 pub fn store_at(mem: &[u64]) -> usize
     requires held { Held mem.now }
     ensures { result ≡ store_at mem.now }
 {
-    HEAD + 2 * mem[SERVERS] as usize + 68 * mem[CLIENTS] as usize + 80 * mem[ROOM] as usize
+    log_at(mem) + ROW * mem[ROOM] as usize
 }

@@ -2,26 +2,25 @@
 // starts in the middle.
 ghost use Rattle.std.specs.Prelude.{◌≡◌, ℕ, ◌+◌, ◌-◌, ◌*◌, ◌<◌, ◌≤◌, length};
 ghost use Rattle.servers.specs.Server.{nth, no_cached};
+ghost use Rattle.raft_log.specs.Places.{words_of, log_of, row_at};
 ghost use Rattle.memory.specs.Words.{cached_words};
-ghost use Rattle.memory.specs.Layout.{log_part, region_in, room_in, clients_in, cache_at};
+ghost use Rattle.memory.specs.Layout.{log_part, region_in, clients_in, cache_at};
 ghost use Rattle.state.specs.Held.{Held, state_of};
 
+use crate::layout::{LENGTH, SESSION};
 use crate::limits::{log_at, sessions_at, store_at};
+use raft_log::row::{LogRow, ROW};
 
-const ROOM: usize = 4;
-
-const ROW: usize = 80;
-
-const SESSION: usize = 68;
-
-// The rows of the log, with those that it has room for.
-pub fn log_part(mem: &[u64]) -> &[u64]
+// The rows of the log, the oldest first.
+pub fn log(mem: &[u64]) -> &[LogRow]
     requires held { Held mem.now }
-    ensures rows { result.now ≡ log_part mem.now }
-    ensures long { length result.now ≡ 80 * room_in mem.now }
+    ensures log { log_of result.now ≡ (state_of mem.now).log }
+    ensures rows { (i : ℕ) → 0 < i → i ≤ length result.now → row_at i (words_of result.now) ≡ row_at i (log_part mem.now) }
+    ensures long { length result.now ≡ length (state_of mem.now).log }
 {
     let at = log_at(mem);
-    &mem[at..at + ROW * mem[ROOM] as usize]
+    let (rows, _) = mem[at..at + ROW * mem[LENGTH] as usize].as_chunks();
+    rows
 }
 
 // Where the session of a client begins.

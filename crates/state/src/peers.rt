@@ -1,15 +1,11 @@
 // What is known of each server: its next index (0 for none, else one more) and its match index.
-ghost use Rattle.std.specs.Prelude.{◌≡◌, ℕ, ◌+◌, ◌-◌, ◌*◌, ◌<◌, ◌≤◌, List, [], ◌∷◌, length, replicate};
+ghost use Rattle.std.specs.Prelude.{◌≡◌, ℕ, ◌+◌, ◌-◌, ◌*◌, ◌<◌, ◌≤◌, List, [], ◌∷◌};
 ghost use Rattle.servers.specs.Server.{State, nth, set_at, next_for, with_next};
 ghost use Rattle.memory.specs.Layout.{servers_in, room_in};
 ghost use Rattle.state.specs.Held.{Held, Becomes, limits_of, state_of};
 ghost use Rattle.state.specs.States.{with_matches, forgot};
 
-use crate::limits::HEAD;
-
-const SERVERS: usize = 1;
-
-const LENGTH: usize = 10;
+use crate::layout::{HEAD, LENGTH, SERVERS};
 
 // The next index for a server; where none is known, the log's last index.
 pub fn next_for(mem: &[u64], h: usize) -> u64
@@ -18,8 +14,7 @@ pub fn next_for(mem: &[u64], h: usize) -> u64
     ensures value { result ≡ next_for (state_of mem.now) h }
     ensures low { result ≤ room_in mem.now + 1 }
 {
-    let next = mem[HEAD + h];
-    if next == 0 { mem[LENGTH] } else { next - 1 }
+    mem[HEAD + h].checked_sub(1).unwrap_or(mem[LENGTH])
 }
 
 pub fn set_next(mem: &mut [u64], h: usize, n: u64)
@@ -52,17 +47,11 @@ pub fn set_match(mem: &mut [u64], h: usize, i: u64)
     mem[HEAD + servers + h] = i;
 }
 
-fn clear(part: &mut [u64])
-    ensures { part.new ≡ replicate (length part.old) 0 }
-{
-    part.fill(0);
-}
-
 // Nothing is known of any server.
 pub fn forget(mem: &mut [u64])
     requires held { Held mem.old }
     ensures { Becomes mem.old mem.new (forgot (limits_of mem.old) (state_of mem.old)) }
 {
     let servers = mem[SERVERS] as usize;
-    clear(&mut mem[HEAD..HEAD + 2 * servers]);
+    mem[HEAD..HEAD + 2 * servers].fill(0);
 }

@@ -5,9 +5,8 @@ ghost use Rattle.memory.specs.Layout.{servers_in};
 ghost use Rattle.state.specs.Held.{Held, Becomes, limits_of, state_of};
 ghost use Rattle.state.specs.States.{with_votes};
 
+use crate::layout::VOTES;
 use crate::limits::{is_majority, limits};
-
-const VOTES: usize = 12;
 
 // The vote of a server is added.
 pub fn add(mem: &mut [u64], h: u64)
@@ -16,7 +15,7 @@ pub fn add(mem: &mut [u64], h: u64)
     ensures { Becomes mem.old mem.new
         (with_votes (set_at (state_of mem.old).votes h true) (state_of mem.old)) }
 {
-    mem[VOTES] = mem[VOTES] | (1 << h);
+    mem[VOTES] |= 1 << h;
 }
 
 // Whether more than half voted for this server.

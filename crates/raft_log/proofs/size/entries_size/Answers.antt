@@ -1,38 +1,53 @@
-use Rattle.std.proofs.Common.{◌≡◌, ℕ, ◌-◌, List, length, ap, ◌∙◌, arith}
-use Rattle.std.proofs.lemmas.List.{length-append}
+use Rattle.std.proofs.Common.{◌≡◌, ℕ, ◌+◌, ◌-◌, ◌<◌, List, [], length, get_or, take, drop, sym, ap, ◌∙◌, subst, arith}
+use Rattle.std.proofs.lemmas.List.{length-append, get_or-take, get_or-drop}
+use Rattle.servers.specs.Server.{Entry}
 use Rattle.wire.specs.Write.{write_entry}
 use Rattle.raft_log.specs.Rows.{row_in}
-use Rattle.raft_log.specs.Places.{entry_in}
+use Rattle.raft_log.specs.Places.{words_of, entry_in}
+use Rattle.raft_log.specs.Bytes.{SoundRow}
 use Rattle.raft_log.proofs.size.entries_size.Goals as goal
-use Rattle.raft_log.proofs.Found.{row_part}
-use Rattle.raft_log.proofs.Entries.{above_bytes, above_more, above_end, lent_row}
+use Rattle.raft_log.proofs.Entries.{above_bytes, above_more, above_end, lent_sound, lent_entry}
+
+-- a row of those that are left
+row_left : (from k : ℕ) (rows : List (List ℕ)) → from + k < length rows
+    → get_or (take (length rows - from) (drop from rows)) k [] ≡ get_or rows (from + k) []
+row_left from k rows h =
+    get_or-take (length rows - from) (drop from rows) k [] (omega arith) ∙ get_or-drop from rows k []
+
+pub loop-row-init : goal.loop-row-init
+loop-row-init c =
+    let from = c.min-from.ensures in
+    let none = ap length (above_end c.args.index (c.min-from.result + 0) (words_of c.args.log.now) (omega arith)) in
+    record { exact = omega arith; most = omega arith }
 
 pub entry_size-total-requires : goal.entry_size-total-requires
 entry_size-total-requires c =
-    let some = c.loop-left-test.true in
-    let row = lent_row c.place-row.result c.loop-left.left c.args.len c.args.region.now c.place-row.ensures
-    (omega arith) c.loop-left.invariant.0 c.requires.there c.requires.sound in
-    record { size = row.0; sound = row.1 }
+    let rows : List (List ℕ) = c.args.log.now in
+    let from : ℕ = c.min-from.result in
+    let k : ℕ = c.loop-row.row-index in
+    let test = c.loop-row-test.true in
+    let there : from + k < length rows = omega arith in
+    subst (λ (x : List ℕ). SoundRow x) (sym (row_left from k rows there)) (lent_sound (from + k) rows c.told-log c.requires there)
 
-pub loop-left-preserved : goal.loop-left-preserved
-loop-left-preserved c =
-    let ws : List ℕ = c.args.region.now in
-    let left : ℕ = c.loop-left.left in
-    let some = c.loop-left-test.true in
-    let most = c.loop-left.invariant.0 in
-    let before = c.loop-left.invariant.1 in
-    let bound = c.loop-left.invariant.2 in
+pub loop-row-preserved : goal.loop-row-preserved
+loop-row-preserved c =
+    let rows : List (List ℕ) = c.args.log.now in
+    let ws : List ℕ = words_of rows in
+    let from : ℕ = c.min-from.result in
+    let k : ℕ = c.loop-row.row-index in
+    let test = c.loop-row-test.true in
+    let least = c.min-from.ensures in
+    let exact = c.loop-row.invariant.exact in
+    let most = c.loop-row.invariant.most in
     let few = c.entry_size-total.ensures.most in
-    let one : c.entry_size-total.result ≡ length (write_entry (entry_in left ws)) =
-    c.entry_size-total.ensures.exact left
-    ∙ ap (λ (x : List ℕ). length (write_entry (row_in left x))) (row_part c.place-row.result left ws c.place-row.ensures) in
-    let more = ap length (above_more c.args.index left ws some) in
-    let both = length-append (write_entry (entry_in left ws)) (above_bytes c.args.index (left - 1) ws) in
-    (omega arith, omega arith, omega arith)
-
-pub returns : goal.returns
-returns c =
-    let none = ap length (above_end c.args.index c.loop-left.left c.args.region.now c.loop-left-test.false) in
-    let before = c.loop-left.invariant.1 in
-    let bound = c.loop-left.invariant.2 in
+    let i : ℕ = from + (k + 1) in
+    let z : i - 1 ≡ from + k = omega arith in
+    let one : c.entry_size-total.result ≡ length (write_entry (entry_in i ws)) =
+    c.entry_size-total.ensures.exact (i - 1 + 1)
+    ∙ (ap (λ (x : List ℕ). length (write_entry (row_in (i - 1 + 1) x)))
+    (row_left from k rows (omega arith) ∙ ap (λ (j : ℕ). get_or rows j []) (sym z))
+    ∙ ap (λ (e : Entry). length (write_entry e)) (lent_entry i rows c.told-log (omega arith) (omega arith))) in
+    let more = ap length (above_more c.args.index i ws (omega arith)) in
+    let both = length-append (write_entry (entry_in i ws)) (above_bytes c.args.index (i - 1) ws) in
+    let before = ap (λ (j : ℕ). length (above_bytes c.args.index j ws)) z in
     record { exact = omega arith; most = omega arith }

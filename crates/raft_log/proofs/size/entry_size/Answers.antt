@@ -7,5 +7,5 @@ returns c =
     let ws : List ℕ = c.args.row.now in
     let e = c.expected_size.ensures in
     let v = c.last_size.ensures in
-    let m = entry_most ws c.requires.sound in
-    record { exact = λ i. let l = entry_long i ws c.requires.size c.requires.sound in omega arith; most = omega arith }
+    let m = entry_most ws c.requires in
+    record { exact = λ i. let l = entry_long i ws c.told-row c.requires in omega arith; most = omega arith }

@@ -23,9 +23,9 @@ write_numbers-next-requires c =
 pub write_command-requires : goal.write_command-requires
 write_command-requires c =
     let ws : List ℕ = c.args.row.now in
-    let rest = command_rest ws c.requires.size in
+    let rest = command_rest ws c.told-row in
     let long = length-drop 4 ws in
-    let size = c.requires.size in
+    let size = c.told-row in
     let same = numbers_same c.args.index ws c.read.result c.read.ensures in
     let numbers = writes_as same c.write_numbers-next.ensures.bytes in
     let next : ℕ = c.write_numbers-next.result in
@@ -45,4 +45,4 @@ returns c =
     writes_as (entry_bytes c.args.index ws)
     (writes_then
     (writes_as (numbers_same c.args.index ws c.read.result c.read.ensures) c.write_numbers-next.ensures.bytes)
-    (writes_as (ap (λ (x : List ℕ). write_command (command_in x)) (command_rest ws c.requires.size)) c.write_command.ensures))
+    (writes_as (ap (λ (x : List ℕ). write_command (command_in x)) (command_rest ws c.told-row)) c.write_command.ensures))
