@@ -2,7 +2,7 @@
 use Rattle.std.proofs.Common.{◌≡◌, ℕ, suc, ◌+◌, ◌-◌, ◌≤◌, List, [], ◌∷◌, ◌++◌, length, take, drop, set, sym, refl, ap, ◌∙◌, subst, arith}
 use borrow.Rule.Slice.PartMut.{put_mid}
 use Rattle.std.proofs.lemmas.List.{append_assoc, drop_at, drop-drop, length-append, length-drop, length-take-le, set_split, take-append-drop, take-append-le, take_at, take-take}
-use Rattle.wire_write.specs.Put.{put_at, Writes, Wrote}
+use Rattle.wire_write.specs.Put.{put_at, Writes, Room, Wrote}
 use Rattle.wire_write.specs.declared.writer.Writer.{Writer}
 
 pub length_put : (at : ℕ) (bs xs : List ℕ) → at + length bs ≤ length xs → length (put_at at bs xs) ≡ length xs
@@ -113,3 +113,18 @@ length_wrote {p = p} {v = v} a =
     let n = a.writes.next in
     let r = a.writes.room in
     ap length a.writes.bytes ∙ length_put v.at p v.out.now (omega arith)
+
+-- where there is room for both there is for the first, and then for the second
+pub room_first : (xs ys : List ℕ) (v : Writer) → Room (length (xs ++ ys)) v → Room (length xs) v
+room_first xs ys v h = let l = length-append xs ys in omega arith
+
+pub room_next : {xs : List ℕ} {v w : Writer} (ys : List ℕ) → Room (length (xs ++ ys)) v → Wrote xs v w → Room (length ys) w
+room_next {xs = xs} ys h a =
+    let l = length-append xs ys in
+    let k = a.writes.next in
+    let long = length_wrote a in
+    omega arith
+
+-- nothing is written
+pub wrote_none : (v : Writer) → Room 0 v → Wrote [] v v
+wrote_none v h = record { same = refl; writes = writes_none v.at v.out.now (omega arith) }
