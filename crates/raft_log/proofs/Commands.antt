@@ -4,10 +4,11 @@ use Rattle.std.proofs.lemmas.List.{get_or-take, get_or-drop}
 use Rattle.texts.specs.Words.{text_in, perhaps_in}
 use Rattle.wire.specs.Write.{write_text, write_command}
 use Rattle.raft_log.specs.Rows.{command_in}
-use Rattle.wire_write.specs.Put.{Writes}
-use Rattle.wire_write.proofs.Putting.{writes_then, writes_as}
+use Rattle.wire_write.specs.Put.{Room, Wrote}
+use Rattle.wire_write.specs.declared.writer.Writer.{Writer}
+use Rattle.wire_write.proofs.Putting.{room_next, wrote_then, wrote_as}
 use Rattle.raft_log.specs.Bytes.{write_expected, write_last}
-use Rattle.raft_log.proofs.Rooms.{room_next, command_bytes}
+use Rattle.raft_log.proofs.Rooms.{command_bytes}
 
 -- the first word of a part
 pub first_of : (a k : ℕ) (ws : List ℕ) → 0 < k → get_or (take k (drop a ws)) 0 0 ≡ get_or ws a 0
@@ -34,11 +35,11 @@ by_parts ws h =
 abbrev pub rest_bytes : List ℕ → List ℕ
 rest_bytes ws = name_bytes ws ++ (expected_bytes ws ++ last_bytes ws)
 
-pub room_name : {at n₁ : ℕ} {out o₁ : List ℕ} (ws : List ℕ) → get_or ws 0 0 < 5 → at + length (write_command (command_in ws)) ≤ length out
-    → Writes at (get_or ws 0 0 ∷ []) out o₁ n₁ → n₁ + length (rest_bytes ws) ≤ length o₁
+pub room_name : {v w : Writer} (ws : List ℕ) → get_or ws 0 0 < 5 → Room (length (write_command (command_in ws))) v
+    → Wrote (get_or ws 0 0 ∷ []) v w → Room (length (rest_bytes ws)) w
 room_name ws tag room w = let e = ap length (by_parts ws tag) in room_next (rest_bytes ws) (omega arith) w
 
-pub command_written : {at n₁ n₂ n₃ n₄ : ℕ} {out o₁ o₂ o₃ o₄ : List ℕ} (ws : List ℕ) → get_or ws 0 0 < 5
-    → Writes at (get_or ws 0 0 ∷ []) out o₁ n₁ → Writes n₁ (name_bytes ws) o₁ o₂ n₂ → Writes n₂ (expected_bytes ws) o₂ o₃ n₃
-    → Writes n₃ (last_bytes ws) o₃ o₄ n₄ → Writes at (write_command (command_in ws)) out o₄ n₄
-command_written ws tag w₁ w₂ w₃ w₄ = writes_as (by_parts ws tag) (writes_then w₁ (writes_then w₂ (writes_then w₃ w₄)))
+pub command_written : {v v₁ v₂ v₃ v₄ : Writer} (ws : List ℕ) → get_or ws 0 0 < 5
+    → Wrote (get_or ws 0 0 ∷ []) v v₁ → Wrote (name_bytes ws) v₁ v₂ → Wrote (expected_bytes ws) v₂ v₃
+    → Wrote (last_bytes ws) v₃ v₄ → Wrote (write_command (command_in ws)) v v₄
+command_written ws tag w₁ w₂ w₃ w₄ = wrote_as (by_parts ws tag) (wrote_then w₁ (wrote_then w₂ (wrote_then w₃ w₄)))

@@ -3,6 +3,8 @@ use Rattle.std.proofs.Common.{◌≡◌, ℕ, ◌+◌, ◌-◌, ◌<◌, ◌≤�
 use Rattle.std.proofs.lemmas.List.{append_assoc, take_all, length-drop}
 use Rattle.servers.specs.Server.{above}
 use Rattle.wire.specs.Write.{write_number, write_command, write_entry, write_entries}
+use Rattle.wire_write.specs.Put.{Room}
+use Rattle.wire_write.specs.declared.writer.Writer.{Writer}
 use Rattle.raft_log.specs.Rows.{row_in, log_in, command_in}
 use Rattle.raft_log.specs.Places.{words_of, entry_in}
 use Rattle.raft_log.specs.declared.row.Numbers.{Numbers}
@@ -48,9 +50,9 @@ pub numbers_same : (i : ℕ) (ws : List ℕ) (r : Numbers) → r ≡ numbers_in 
     → write_numbers r.server r.client r.number i r.term ≡ numbers_bytes i ws
 numbers_same i ws r e = ap (λ (x : Numbers). write_numbers x.server x.client x.number i x.term) e
 
-pub room_both : (i at n : ℕ) (ws : List ℕ) → at + length (write_entry (row_in i ws)) ≤ n
-    → at + length (numbers_bytes i ws ++ write_command (command_in (drop 4 ws))) ≤ n
-room_both i at n ws h = let e = ap length (entry_bytes i ws) in omega arith
+pub room_both : (i : ℕ) (ws : List ℕ) (v : Writer) → Room (length (write_entry (row_in i ws))) v
+    → Room (length (numbers_bytes i ws ++ write_command (command_in (drop 4 ws)))) v
+room_both i ws v h = let e = ap length (entry_bytes i ws) in omega arith
 
 -- the row that is lent stands at its index, and can be written
 pub lent_sound : (i : ℕ) (rows : List (List ℕ)) → Wide rows → Sound (length rows) (words_of rows) → i < length rows

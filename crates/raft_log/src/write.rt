@@ -6,88 +6,80 @@ ghost use Rattle.texts.specs.Words.{text_in, perhaps_in};
 ghost use Rattle.wire.specs.Write.{write_number, write_command, write_entry, write_entries};
 ghost use Rattle.raft_log.specs.Rows.{row_in, command_in};
 ghost use Rattle.raft_log.specs.Places.{words_of, log_of};
-ghost use Rattle.wire_write.specs.Put.{Writes};
+ghost use Rattle.wire_write.specs.Put.{Room, Wrote};
 ghost use Rattle.raft_log.specs.Bytes.{Sound, SoundCommand, SoundRow, write_numbers, write_expected, write_last};
 
 use crate::row::{LogRow, Numbers};
-use wire_write::put::{write_byte, write_number};
-use wire_write::words::{write_perhaps_in, write_text_in};
+use wire_write::writer::Writer;
 
 // Of the five commands only a swap says what it expects.
-fn write_expected(out: &mut [u8], at: usize, tag: u64, words: &[u64]) -> usize
+fn write_expected(to: &mut Writer<'_>, tag: u64, words: &[u64])
     requires size { length words.now ≡ 33 }
     requires sound { slice_index words.now 0 ≤ 257 }
-    requires room { at + length (write_expected tag (perhaps_in words.now)) ≤ length out.old }
-    ensures { Writes at (write_expected tag (perhaps_in words.now)) out.old out.new result }
+    requires room { Room (length (write_expected tag (perhaps_in words.now))) to.old }
+    ensures { Wrote (write_expected tag (perhaps_in words.now)) to.old to.new }
 {
     if tag == 3 {
-        write_perhaps_in(out, at, words)
-    } else {
-        at
+        to.perhaps_in(words);
     }
 }
 
 // Get and remove have no text.
-fn write_last(out: &mut [u8], at: usize, tag: u64, words: &[u64]) -> usize
+fn write_last(to: &mut Writer<'_>, tag: u64, words: &[u64])
     requires size { length words.now ≡ 33 }
     requires sound { slice_index words.now 0 ≤ 256 }
-    requires room { at + length (write_last tag (text_in words.now)) ≤ length out.old }
-    ensures { Writes at (write_last tag (text_in words.now)) out.old out.new result }
+    requires room { Room (length (write_last tag (text_in words.now))) to.old }
+    ensures { Wrote (write_last tag (text_in words.now)) to.old to.new }
 {
-    if tag == 0 || tag == 2 {
-        at
-    } else {
-        write_text_in(out, at, words)
+    if tag != 0 && tag != 2 {
+        to.text_in(words);
     }
 }
 
-fn write_command(out: &mut [u8], at: usize, words: &[u64]) -> usize
+fn write_command(to: &mut Writer<'_>, words: &[u64])
     requires size { length words.now ≡ 76 }
     requires sound { SoundCommand words.now }
-    requires room { at + length (write_command (command_in words.now)) ≤ length out.old }
-    ensures { Writes at (write_command (command_in words.now)) out.old out.new result }
+    requires room { Room (length (write_command (command_in words.now))) to.old }
+    ensures { Wrote (write_command (command_in words.now)) to.old to.new }
 {
     let tag = words[0];
-    let named = write_byte(out, at, tag as u8);
-    let expecting = write_text_in(out, named, &words[1..10]);
-    let last = write_expected(out, expecting, tag, &words[10..43]);
-    write_last(out, last, tag, &words[43..76])
+    to.byte(tag as u8);
+    to.text_in(&words[1..10]);
+    write_expected(to, tag, &words[10..43]);
+    write_last(to, tag, &words[43..76]);
 }
 
-fn write_numbers(out: &mut [u8], at: usize, numbers: Numbers, index: u64) -> usize
+fn write_numbers(to: &mut Writer<'_>, numbers: Numbers, index: u64)
     requires server { numbers.server < 256 }
-    requires room { at + 33 ≤ length out.old }
-    ensures bytes { Writes at (write_numbers numbers.server numbers.client numbers.number index numbers.term)
-        out.old out.new result }
-    ensures next { result ≡ at + 33 }
+    requires room { Room 33 to.old }
+    ensures bytes { Wrote (write_numbers numbers.server numbers.client numbers.number index numbers.term) to.old to.new }
+    ensures at { to.new.at ≡ to.old.at + 33 }
 {
-    let client = write_byte(out, at, numbers.server as u8);
-    let number = write_number(out, client, numbers.client);
-    let place = write_number(out, number, numbers.number);
-    let term = write_number(out, place, index);
-    write_number(out, term, numbers.term)
+    to.byte(numbers.server as u8);
+    to.number(numbers.client);
+    to.number(numbers.number);
+    to.number(index);
+    to.number(numbers.term);
 }
 
 // The entry of a row, which stands at that index.
-fn write_entry(out: &mut [u8], at: usize, row: &LogRow, index: u64) -> usize
+fn write_entry(to: &mut Writer<'_>, row: &LogRow, index: u64)
     requires sound { SoundRow row.now }
-    requires room { at + length (write_entry (row_in index row.now)) ≤ length out.old }
-    ensures { Writes at (write_entry (row_in index row.now)) out.old out.new result }
+    requires room { Room (length (write_entry (row_in index row.now))) to.old }
+    ensures { Wrote (write_entry (row_in index row.now)) to.old to.new }
 {
-    let next = write_numbers(out, at, Numbers::read(row), index);
-    write_command(out, next, &row[4..])
+    write_numbers(to, Numbers::read(row), index);
+    write_command(to, &row[4..]);
 }
 
-// The entries above an index. The other bytes stay, and the place after the entries is told. Who writes rows asks that they are sound, and
-// who looks one up does not: a type that holds it would ask it of all.
-pub fn write_entries(out: &mut [u8], at: usize, log: &[LogRow], index: usize) -> usize
+// The entries above an index. Who writes rows asks that they are sound, and who looks one up does not: a type that holds it would ask it
+// of all.
+pub fn write_entries(to: &mut Writer<'_>, log: &[LogRow], index: usize)
     requires sound { Sound (length log.now) (words_of log.now) }
-    requires room { at + length (write_entries (above index (log_of log.now))) ≤ length out.old }
-    ensures { Writes at (write_entries (above index (log_of log.now))) out.old out.new result }
+    requires room { Room (length (write_entries (above index (log_of log.now)))) to.old }
+    ensures { Wrote (write_entries (above index (log_of log.now))) to.old to.new }
 {
-    let mut next = at;
     for i in (index..log.len()).rev() {
-        next = write_entry(out, next, &log[i], i as u64 + 1);
+        write_entry(to, &log[i], i as u64 + 1);
     }
-    next
 }

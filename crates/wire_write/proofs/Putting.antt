@@ -2,7 +2,8 @@
 use Rattle.std.proofs.Common.{◌≡◌, ℕ, suc, ◌+◌, ◌-◌, ◌≤◌, List, [], ◌∷◌, ◌++◌, length, take, drop, set, sym, refl, ap, ◌∙◌, subst, arith}
 use borrow.Rule.Slice.PartMut.{put_mid}
 use Rattle.std.proofs.lemmas.List.{append_assoc, drop_at, drop-drop, length-append, length-drop, length-take-le, set_split, take-append-drop, take-append-le, take_at, take-take}
-use Rattle.wire_write.specs.Put.{put_at, Writes}
+use Rattle.wire_write.specs.Put.{put_at, Writes, Room, Wrote}
+use Rattle.wire_write.specs.declared.writer.Writer.{Writer}
 
 pub length_put : (at : ℕ) (bs xs : List ℕ) → at + length bs ≤ length xs → length (put_at at bs xs) ≡ length xs
 length_put at bs xs h =
@@ -55,6 +56,9 @@ writes_then {at = at} {n = n} {r = r} {p = p} {q = q} {xs = xs} {ys = ys} {zs = 
       room = omega arith;
     }
 
+pub wrote_then : {p q : List ℕ} {u v w : Writer} → Wrote p u v → Wrote q v w → Wrote (p ++ q) u w
+wrote_then a b = record { same = b.same ∙ a.same; writes = writes_then a.writes b.writes }
+
 -- a piece before the one that stands there: a count that is known only after what it counts
 put_before :
     (at : ℕ) (p q xs : List ℕ) → at + length p + length q ≤ length xs → put_at at p (put_at (at + length p) q xs) ≡ put_at at (p ++ q) xs
@@ -99,3 +103,28 @@ writes_part at n bs xs ys e l h =
 -- the same bytes in other words
 pub writes_as : {at r : ℕ} {p q xs ys : List ℕ} → p ≡ q → Writes at p xs ys r → Writes at q xs ys r
 writes_as {at = at} {r = r} {xs = xs} {ys = ys} e w = let P : List ℕ → Type 0 = λ z. Writes at z xs ys r in subst P e w
+
+pub wrote_as : {p q : List ℕ} {v w : Writer} → p ≡ q → Wrote p v w → Wrote q v w
+wrote_as {v = v} {w = w} e h = let P : List ℕ → Type 0 = λ z. Wrote z v w in subst P e h
+
+-- no byte more or less is lent
+pub length_wrote : {p : List ℕ} {v w : Writer} → Wrote p v w → length w.out.now ≡ length v.out.now
+length_wrote {p = p} {v = v} a =
+    let n = a.writes.next in
+    let r = a.writes.room in
+    ap length a.writes.bytes ∙ length_put v.at p v.out.now (omega arith)
+
+-- where there is room for both there is for the first, and then for the second
+pub room_first : (xs ys : List ℕ) (v : Writer) → Room (length (xs ++ ys)) v → Room (length xs) v
+room_first xs ys v h = let l = length-append xs ys in omega arith
+
+pub room_next : {xs : List ℕ} {v w : Writer} (ys : List ℕ) → Room (length (xs ++ ys)) v → Wrote xs v w → Room (length ys) w
+room_next {xs = xs} ys h a =
+    let l = length-append xs ys in
+    let k = a.writes.next in
+    let long = length_wrote a in
+    omega arith
+
+-- nothing is written
+pub wrote_none : (v : Writer) → Room 0 v → Wrote [] v v
+wrote_none v h = record { same = refl; writes = writes_none v.at v.out.now (omega arith) }

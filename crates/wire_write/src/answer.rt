@@ -1,12 +1,12 @@
 // Answers: the enum that a call returns, and the writers of what stands before the parts of an answer's bytes.
-ghost use Rattle.std.specs.Prelude.{◌≡◌, ◌+◌, ◌≤◌, ◌++◌, length};
+ghost use Rattle.std.specs.Prelude.{◌≡◌, ◌+◌, ◌++◌, length};
 ghost use Rattle.servers.specs.Server.{not_leader, refused};
 ghost use Rattle.wire.specs.Write.{write_answer};
 ghost use Rattle.wire_write.specs.Answers.{answer_length};
 ghost use Rattle.wire_write.specs.Heads.{comes_head, does_head, letter_head};
-ghost use Rattle.wire_write.specs.Put.{Writes};
+ghost use Rattle.wire_write.specs.Put.{Room, Wrote};
 
-use crate::put::{write_byte, write_bytes, write_number};
+use crate::writer::Writer;
 
 #[derive(Clone, Copy, PartialEq, Eq, Debug)]
 pub enum Answer {
@@ -30,51 +30,53 @@ impl Answer {
     }
 }
 
-pub fn write_refused(out: &mut [u8], at: usize, refusal: u8, place: u64) -> usize
-    requires { at + 10 ≤ length out.old }
-    ensures bytes { Writes at (write_answer (refused refusal place)) out.old out.new result }
-    ensures next { result ≡ at + 10 }
-{
-    let n0 = write_byte(out, at, 0);
-    let n1 = write_byte(out, n0, refusal);
-    write_number(out, n1, place)
-}
+impl Writer<'_> {
+    pub fn refused(&mut self, refusal: u8, place: u64)
+        requires { Room 10 self.old }
+        ensures bytes { Wrote (write_answer (refused refusal place)) self.old self.new }
+        ensures at { self.new.at ≡ self.old.at + 10 }
+    {
+        self.byte(0);
+        self.byte(refusal);
+        self.number(place);
+    }
 
-pub fn write_not_leader(out: &mut [u8], at: usize) -> usize
-    requires { at + 1 ≤ length out.old }
-    ensures bytes { Writes at (write_answer not_leader) out.old out.new result }
-    ensures next { result ≡ at + 1 }
-{
-    write_byte(out, at, 1)
-}
+    pub fn not_leader(&mut self)
+        requires { Room 1 self.old }
+        ensures bytes { Wrote (write_answer not_leader) self.old self.new }
+        ensures at { self.new.at ≡ self.old.at + 1 }
+    {
+        self.byte(1);
+    }
 
-// How many are told. What is told may be there already: the count is known last.
-pub fn write_does_head(out: &mut [u8], at: usize, told: u64) -> usize
-    requires { at + 9 ≤ length out.old }
-    ensures bytes { Writes at (does_head told) out.old out.new result }
-    ensures next { result ≡ at + 9 }
-{
-    let n0 = write_byte(out, at, 2);
-    write_number(out, n0, told)
-}
+    // How many are told. What is told may be there already: the count is known last.
+    pub fn does_head(&mut self, told: u64)
+        requires { Room 9 self.old }
+        ensures bytes { Wrote (does_head told) self.old self.new }
+        ensures at { self.new.at ≡ self.old.at + 9 }
+    {
+        self.byte(2);
+        self.number(told);
+    }
 
-// A letter up to its message: to which server, and how many bytes the message has.
-pub fn write_letter_head(out: &mut [u8], at: usize, to: u8, len: u64) -> usize
-    requires { at + 9 ≤ length out.old }
-    ensures bytes { Writes at (letter_head to len) out.old out.new result }
-    ensures next { result ≡ at + 9 }
-{
-    let n0 = write_byte(out, at, to);
-    write_number(out, n0, len)
-}
+    // A letter up to its message: to which server, and how many bytes the message has.
+    pub fn letter_head(&mut self, to: u8, len: u64)
+        requires { Room 9 self.old }
+        ensures bytes { Wrote (letter_head to len) self.old self.new }
+        ensures at { self.new.at ≡ self.old.at + 9 }
+    {
+        self.byte(to);
+        self.number(len);
+    }
 
-// The event of a message, from the bytes that a letter has of it.
-pub fn write_comes(out: &mut [u8], at: usize, from: u8, message: &[u8]) -> usize
-    requires { at + 2 + length message.now ≤ length out.old }
-    ensures bytes { Writes at (comes_head from ++ message.now) out.old out.new result }
-    ensures next { result ≡ at + 2 + length message.now }
-{
-    let n0 = write_byte(out, at, 2);
-    let n1 = write_byte(out, n0, from);
-    write_bytes(out, n1, message)
+    // The event of a message, from the bytes that a letter has of it.
+    pub fn comes(&mut self, from: u8, message: &[u8])
+        requires { Room (2 + length message.now) self.old }
+        ensures bytes { Wrote (comes_head from ++ message.now) self.old self.new }
+        ensures at { self.new.at ≡ self.old.at + (2 + length message.now) }
+    {
+        self.byte(2);
+        self.byte(from);
+        self.bytes(message);
+    }
 }

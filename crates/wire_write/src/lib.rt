@@ -4,5 +4,5 @@
 pub mod answer;
 pub mod message;
 pub mod promises;
-pub mod put;
 pub mod words;
+pub mod writer;

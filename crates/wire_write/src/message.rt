@@ -1,62 +1,56 @@
 // Writers of messages. The entries of an append are written after its head by whoever has them.
-ghost use Rattle.std.specs.Prelude.{◌≡◌, ◌+◌, ◌≤◌, length};
+ghost use Rattle.std.specs.Prelude.{◌≡◌, ◌+◌};
 ghost use Rattle.servers.specs.Server.{appended, ask_vote, vote};
 ghost use Rattle.wire.specs.Write.{write_message};
 ghost use Rattle.wire_write.specs.Heads.{append_head};
-ghost use Rattle.wire_write.specs.Put.{Writes};
+ghost use Rattle.wire_write.specs.Put.{Room, Wrote};
 
-use crate::put::{write_bool, write_byte, write_number};
+use crate::writer::Writer;
 
-pub fn write_ask_vote(out: &mut [u8], at: usize, term: u64, index: u64, last_term: u64) -> usize
-    requires { at + 25 ≤ length out.old }
-    ensures bytes { Writes at (write_message (ask_vote term index last_term)) out.old out.new result }
-    ensures next { result ≡ at + 25 }
-{
-    let n0 = write_byte(out, at, 0);
-    let n1 = write_number(out, n0, term);
-    let n2 = write_number(out, n1, index);
-    write_number(out, n2, last_term)
-}
+impl Writer<'_> {
+    pub fn ask_vote(&mut self, term: u64, index: u64, last_term: u64)
+        requires { Room 25 self.old }
+        ensures bytes { Wrote (write_message (ask_vote term index last_term)) self.old self.new }
+        ensures at { self.new.at ≡ self.old.at + 25 }
+    {
+        self.byte(0);
+        self.number(term);
+        self.number(index);
+        self.number(last_term);
+    }
 
-pub fn write_vote(out: &mut [u8], at: usize, term: u64, granted: bool) -> usize
-    requires { at + 10 ≤ length out.old }
-    ensures bytes { Writes at (write_message (vote term granted)) out.old out.new result }
-    ensures next { result ≡ at + 10 }
-{
-    let n0 = write_byte(out, at, 1);
-    let n1 = write_number(out, n0, term);
-    write_bool(out, n1, granted)
-}
+    pub fn vote(&mut self, term: u64, granted: bool)
+        requires { Room 10 self.old }
+        ensures bytes { Wrote (write_message (vote term granted)) self.old self.new }
+        ensures at { self.new.at ≡ self.old.at + 10 }
+    {
+        self.byte(1);
+        self.number(term);
+        self.bool(granted);
+    }
 
-// An append up to its entries: term, the index and term before, how far it is committed, how many entries.
-pub fn write_append_head(
-    out: &mut [u8],
-    at: usize,
-    term: u64,
-    before: u64,
-    before_term: u64,
-    commit: u64,
-    count: u64,
-) -> usize
-    requires { at + 41 ≤ length out.old }
-    ensures bytes { Writes at (append_head term before before_term commit count) out.old out.new result }
-    ensures next { result ≡ at + 41 }
-{
-    let n0 = write_byte(out, at, 2);
-    let n1 = write_number(out, n0, term);
-    let n2 = write_number(out, n1, before);
-    let n3 = write_number(out, n2, before_term);
-    let n4 = write_number(out, n3, commit);
-    write_number(out, n4, count)
-}
+    // An append up to its entries: term, the index and term before, how far it is committed, how many entries.
+    pub fn append_head(&mut self, term: u64, before: u64, before_term: u64, commit: u64, count: u64)
+        requires { Room 41 self.old }
+        ensures bytes { Wrote (append_head term before before_term commit count) self.old self.new }
+        ensures at { self.new.at ≡ self.old.at + 41 }
+    {
+        self.byte(2);
+        self.number(term);
+        self.number(before);
+        self.number(before_term);
+        self.number(commit);
+        self.number(count);
+    }
 
-pub fn write_appended(out: &mut [u8], at: usize, term: u64, index: u64, ok: bool) -> usize
-    requires { at + 18 ≤ length out.old }
-    ensures bytes { Writes at (write_message (appended term index ok)) out.old out.new result }
-    ensures next { result ≡ at + 18 }
-{
-    let n0 = write_byte(out, at, 3);
-    let n1 = write_number(out, n0, term);
-    let n2 = write_number(out, n1, index);
-    write_bool(out, n2, ok)
+    pub fn appended(&mut self, term: u64, index: u64, ok: bool)
+        requires { Room 18 self.old }
+        ensures bytes { Wrote (write_message (appended term index ok)) self.old self.new }
+        ensures at { self.new.at ≡ self.old.at + 18 }
+    {
+        self.byte(3);
+        self.number(term);
+        self.number(index);
+        self.bool(ok);
+    }
 }

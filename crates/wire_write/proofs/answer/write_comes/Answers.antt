@@ -1,8 +1,0 @@
-use Rattle.wire_write.proofs.Putting.{writes_then}
-use Rattle.wire_write.proofs.answer.write_comes.Goals as goal
-
-pub returns-clause-bytes : goal.returns-clause-bytes
-returns-clause-bytes c =
-    writes_then c.write_byte-n0.ensures.bytes
-    (writes_then c.write_byte-n1.ensures.bytes
-    c.write_bytes.ensures.bytes)
