@@ -1,6 +1,7 @@
 // Each test writes entries as the bytes of a message, has the log take them, and looks at the words.
 ghost use Rattle.std.specs.Prelude.{◌≡◌, ◌+◌, ◌*◌, ◌^◌, ◌<◌, ◌≤◌, length, take, replicate};
 ghost use Rattle.raft_log.specs.Places.{words_of};
+ghost use Rattle.wire_write.specs.Put.{Room};
 ghost use Rattle.log_tests.specs.Held.{Held};
 
 use raft_log::append::push;
@@ -11,21 +12,29 @@ use raft_log::size::entries_size;
 use raft_log::write::write_entries;
 use wire_read::message::read_entries;
 use wire_read::parts::Command;
-use wire_write::put::{write_byte, write_number, write_text};
+use wire_write::writer::Writer;
 
 // An entry that puts a text under the name "n", as its bytes.
-fn entry(out: &mut [u8], at: usize, index: u64, term: u64, text: &[u8]) -> usize
-    requires { at + 51 + length text.now ≤ length out.old }
-    ensures { result ≡ at + 51 + length text.now }
+fn entry(to: &mut Writer<'_>, index: u64, term: u64, text: &[u8])
+    requires { Room (51 + length text.now) to.old }
+    ensures long { length to.new.out.now ≡ length to.old.out.now }
+    ensures at { to.new.at ≡ to.old.at + 51 + length text.now }
 {
-    let client = write_byte(out, at, 3);
-    let number = write_number(out, client, 7);
-    let place = write_number(out, number, 11);
-    let of = write_number(out, place, index);
-    let tag = write_number(out, of, term);
-    let name = write_byte(out, tag, 1);
-    let put = write_text(out, name, b"n");
-    write_text(out, put, text)
+    to.byte(3);
+    to.number(7);
+    to.number(11);
+    to.number(index);
+    to.number(term);
+    to.byte(1);
+    to.text(b"n");
+    to.text(text);
+}
+
+// One entry at the front of the bytes.
+fn first(out: &mut [u8], index: u64, term: u64, text: &[u8])
+    requires { 51 + length text.now ≤ length out.old }
+{
+    entry(&mut Writer { out, at: 0 }, index, term, text);
 }
 
 // All after an index replaced by so many entries at the front of the bytes; the length after it.
@@ -74,7 +83,7 @@ fn one_room(rt: HostRuntime) {
         "an empty log has no entry"
     );
     assert_eq!(rt; last_term(rows(&region, 0)), 0, "nor a term");
-    let _end = entry(&mut bytes, 0, 1, 5, b"text");
+    first(&mut bytes, 1, 5, b"text");
     assert_eq!(rt; replaced(&mut region, 0, 0, &bytes, 1), 1, "one entry came");
     assert_eq!(rt;
         term_at(rows(&region, 1), 1),
@@ -101,9 +110,13 @@ fn three(region: &mut [u64]) -> usize
     ensures { result ≤ 2000 }
 {
     let mut bytes = [0u8; 200];
-    let second = entry(&mut bytes, 0, 3, 2, b"the third");
-    let first = entry(&mut bytes, second, 2, 1, b"");
-    let _end = entry(&mut bytes, first, 1, 1, b"the first");
+    let mut to = Writer {
+        out: &mut bytes,
+        at: 0,
+    };
+    entry(&mut to, 3, 2, b"the third");
+    entry(&mut to, 2, 1, b"");
+    entry(&mut to, 1, 1, b"the first");
     replaced(region, 0, 0, &bytes, 3)
 }
 
@@ -121,7 +134,7 @@ fn in_the_middle(rt: HostRuntime) {
     assert!(rt; zero(&region[240..320]), "no row past the end");
     let before = region;
     let mut bytes = [0u8; 80];
-    let _end = entry(&mut bytes, 0, 2, 9, b"another");
+    first(&mut bytes, 2, 9, b"another");
     assert_eq!(rt;
         replaced(&mut region, 3, 1, &bytes, 1),
         2,
@@ -141,7 +154,7 @@ fn at_the_start_and_the_end(rt: HostRuntime) {
     let mut region = [0u64; 320];
     assert_eq!(rt; three(&mut region), 3);
     let mut bytes = [0u8; 80];
-    let _end = entry(&mut bytes, 0, 4, 3, b"the fourth");
+    first(&mut bytes, 4, 3, b"the fourth");
     assert_eq!(rt;
         replaced(&mut region, 3, 3, &bytes, 1),
         4,
@@ -253,7 +266,9 @@ fn sent(out: &mut [u8], region: &[u64], len: usize, index: usize) -> usize
     if entries_size(log, index) > out.len() {
         return 0;
     }
-    write_entries(out, 0, log, index)
+    let mut to = Writer { out, at: 0 };
+    write_entries(&mut to, log, index);
+    to.at
 }
 
 // Three entries.

@@ -1,5 +1,4 @@
-use Rattle.std.proofs.Common.{ℕ, ◌+◌, List, ◌∷◌, length, take, drop, sym, ap, ◌∙◌, subst, arith}
-use Rattle.std.proofs.lemmas.List.{length-replicate}
+use Rattle.std.proofs.Common.{ℕ, ◌+◌, List, ◌∷◌, take, drop, sym, subst, arith}
 use Rattle.servers.specs.Store.{put}
 use Rattle.servers.specs.Server.{Entry}
 use Rattle.texts.specs.Words.{Text, word}
