@@ -1,3 +1,4 @@
+pub mod Lent
 pub mod Journals
 pub mod Parts
 pub mod Letters

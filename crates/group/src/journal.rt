@@ -3,8 +3,7 @@ ghost use Rattle.std.specs.Prelude.{◌≡◌, ◌+◌, ◌≤◌, ◌∷◌, le
 ghost use Rattle.wire_write.specs.Put.{Writes};
 ghost use Rattle.group.specs.Journals.{write_came};
 
-use wire_write::answer::write_comes;
-use wire_write::put::{write_byte, write_number, write_text};
+use wire_write::writer::Writer;
 
 // What a happening has in the journal of events besides the event: the server, and how many bytes.
 pub const HEAD: usize = 9;
@@ -15,8 +14,10 @@ pub fn put_came(events: &mut [u8], at: usize, server: u8, event: &[u8]) -> usize
     ensures bytes { Writes at (write_came server event.now) events.old events.new result }
     ensures next { result ≡ at + 9 + length event.now }
 {
-    let next = write_byte(events, at, server);
-    write_text(events, next, event)
+    let mut to = Writer { out: events, at };
+    to.byte(server);
+    to.text(event);
+    to.at
 }
 
 // A letter that comes: its message's bytes as they were sent, with the sender before them.
@@ -25,7 +26,9 @@ pub fn put_coming(events: &mut [u8], at: usize, server: u8, from: u8, message: &
     ensures bytes { Writes at (write_came server (2 ∷ (from ∷ message.now))) events.old events.new result }
     ensures next { result ≡ at + 11 + length message.now }
 {
-    let size = write_byte(events, at, server);
-    let event = write_number(events, size, message.len() as u64 + 2);
-    write_comes(events, event, from, message)
+    let mut to = Writer { out: events, at };
+    to.byte(server);
+    to.number(message.len() as u64 + 2);
+    to.comes(from, message);
+    to.at
 }

@@ -1,5 +1,5 @@
 -- An answer's record: the answer is written past the room for its length, and then its length.
-use Rattle.std.proofs.Common.{◌≡◌, ℕ, ◌+◌, ◌-◌, ◌≤◌, List, ◌++◌, length, take, drop, sym, ap, ◌∙◌, arith}
+use Rattle.std.proofs.Common.{◌≡◌, ℕ, ◌+◌, ◌-◌, ◌≤◌, List, ◌++◌, length, take, drop, sym, ap, ◌∙◌, subst, arith}
 use borrow.Rule.Slice.PartMut.{put_mid}
 use Rattle.std.proofs.lemmas.List.{append_assoc, length-append, length-drop, take_at, drop_at, length-take-le, take-append-drop}
 use Rattle.std.proofs.lemmas.Slice.{take-put_mid_below}
@@ -57,12 +57,14 @@ length_recorded at k n xs ys zs r h e q w =
     let room = w.room in
     ap length w.bytes ∙ length_put at (write_number n) (put_mid a k xs ys) (omega arith) ∙ omega arith
 
--- one event, from what the step and the two writes did
-pub ran_one : {m bs xs part m' ys zs : List ℕ} {at k len r : ℕ} {ans : Answer} → Stepped m bs part m' ys ans → at + 8 ≤ length xs → k ≡ length xs - (at + 8) → length ys ≡ k → len ≡ answer_length ans
-    → Writes at (write_number len) (put_mid (at + 8) k xs ys) zs r → Reached (limits_of m') m' → limits_of m' ≡ limits_of m
+-- one event, from what the step and the two writes did; the bytes are what the writer left
+pub ran_one : {m bs xs part m' ys os zs : List ℕ} {at k len r : ℕ} {ans : Answer} → Stepped m bs part m' ys ans → at + 8 ≤ length xs
+    → k ≡ length xs - (at + 8) → length ys ≡ k → len ≡ answer_length ans → zs ≡ os
+    → Writes at (write_number len) (put_mid (at + 8) k xs ys) os r → Reached (limits_of m') m' → limits_of m' ≡ limits_of m
     → RanOne m bs xs at m' zs (at + 8 + len)
 ran_one {m = m} {bs = bs} {xs = xs} {part = part} {m' = m'} {ys = ys} {zs = zs} {at = at} {k = k} {len = len} {r = r} {ans = ans}
-    s h f g q w x l =
+    s h f g q e v x l =
+    let w = subst (λ (z : List ℕ). Writes at (write_number len) (put_mid (at + 8) k xs ys) z r) (sym e) v in
     let a : server.Answer = says serves m (read_event bs) in
     let b : List ℕ = write_answer a in
     let n : len ≡ length b = q ∙ (ap answer_length s.answer_is ∙ length_answer a) in

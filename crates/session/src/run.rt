@@ -10,7 +10,7 @@ use server::open::answer_bytes;
 use server::step::step;
 use state::limits::limits;
 use wire_read::read::read_text;
-use wire_write::put::write_number;
+use wire_write::writer::Writer;
 
 // How many bytes of records were read, and of answers' records written.
 #[derive(Clone, Copy, PartialEq, Eq, Debug)]
@@ -28,7 +28,7 @@ fn run_one(mem: &mut [u64], event: &[u8], out: &mut [u8], at: usize) -> usize
     let first = at + 8;
     let answer = step(mem, event, &mut out[first..]);
     let len = answer.len();
-    write_number(out, at, len as u64);
+    Writer { out, at }.number(len as u64);
     first + len
 }
 

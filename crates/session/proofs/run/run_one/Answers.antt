@@ -1,4 +1,4 @@
-use Rattle.std.proofs.Common.{ℕ, ◌+◌, ◌-◌, List, length, drop, refl, arith}
+use Rattle.std.proofs.Common.{rules, ℕ, ◌+◌, ◌-◌, List, length, drop, refl, arith}
 use Rattle.std.proofs.lemmas.List.{length-drop, length-take-le}
 use Rattle.session.proofs.Records.{ran_one}
 use Rattle.session.proofs.run.run_one.Goals as goal
@@ -13,4 +13,4 @@ returns c =
     let s = c.step-answer.ensures.done in
     let long = s.bytes.long in
     ran_one {xs = xs} {at = c.args.at} {k = length xs - a} s (omega arith) refl (omega arith) (assumption)
-    c.write_number.ensures.bytes c.step-answer.ensures.reached c.step-answer.ensures.limits
+    (search rules) c.number.ensures.bytes.writes c.step-answer.ensures.reached c.step-answer.ensures.limits
