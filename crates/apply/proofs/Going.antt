@@ -3,11 +3,11 @@ use Rattle.std.proofs.Common.{◌≡◌, ℕ, ◌+◌, ◌<◌, ◌≤◌, min, 
 use Rattle.std.proofs.lemmas.List.{length-append}
 use Rattle.servers.specs.Server.{Entry, Said, Limits, State, at_least, with_applied, do_one, tell_one, do_all, tell_all, dues, finished}
 use Rattle.wire.specs.Write.{write_saids}
-use Rattle.wire_write.specs.Put.{Writes}
-use Rattle.wire_write.proofs.Putting.{writes_as, writes_then, writes_none}
+use Rattle.wire_write.specs.Put.{Room, Wrote}
+use Rattle.wire_write.specs.declared.writer.Writer.{Writer}
+use Rattle.wire_write.proofs.Putting.{room_first, room_next, wrote_as, wrote_then, wrote_none}
 use Rattle.raft_log.specs.Rows.{log_region}
 use Rattle.raft_log.specs.Places.{entry_in}
-use Rattle.raft_log.proofs.Rooms.{room_first, room_next}
 use Rattle.state.specs.Memory.{Becomes, Turns, clients_in, limits_of, region_in, room_in, state_of}
 use Rattle.state.specs.declared.memory.Memory.{Memory}
 use Rattle.memory.specs.Program.{region_all}
@@ -61,8 +61,8 @@ next_told m m₂ i k some there t e =
     let clients : clients_in m₂ ≡ clients_in m = ap (λ (l : Limits). l.clients) t.limits in
     (omega arith, x.1 ∙ ap (λ (s : State). kept_for k (session s k) ∷ []) (sym t.state))
 
--- m₀ and o₀ at first; m, o, how far, how many and the place now. Of m is told what is left
-pub record Going (m₀ : Memory) (o₀ : List ℕ) (at : ℕ) (m : Memory) (o : List ℕ) (index count next : ℕ) : Type 0 where
+-- m₀ and v₀ at first; m, v, how far and how many now. Of m is told what is left
+pub record Going (m₀ : Memory) (v₀ : Writer) (m : Memory) (v : Writer) (index count : ℕ) : Type 0 where
   pub same : m.words.ghost_name ≡ m₀.words.ghost_name
   pub limits : limits_of m ≡ limits_of m₀
   pub here : index ≡ (state_of m).applied
@@ -70,13 +70,13 @@ pub record Going (m₀ : Memory) (o₀ : List ℕ) (at : ℕ) (m : Memory) (o : 
   pub long : length (state_of m).log ≡ length (state_of m₀).log
   pub ends : finished (state_of m) ≡ finished (state_of m₀)
   pub region : region_reached m ≡ region_reached m₀
-  pub room : next + length (write_saids (all_told m)) ≤ length o
-  pub bytes : (o' : List ℕ) (n : ℕ) → Writes next (write_saids (all_told m)) o o' n → Writes at (write_saids (all_told m₀)) o₀ o' n
+  pub room : Room (length (write_saids (all_told m))) v
+  pub bytes : (w : Writer) → Wrote (write_saids (all_told m)) v w → Wrote (write_saids (all_told m₀)) v₀ w
   pub counted : count + length (all_told m) ≡ length (all_told m₀)
   pub few : count ≤ index
 
 -- one entry
-module _ (m₀ : Memory) (o₀ : List ℕ) (at : ℕ) (m : Memory) (o : List ℕ) (index count next : ℕ) (g : Going m₀ o₀ at m o index count next)
+module _ (m₀ : Memory) (v₀ : Writer) (m : Memory) (v : Writer) (index count : ℕ) (g : Going m₀ v₀ m v index count)
     (more : index < min (state_of m₀).commit (length (state_of m₀).log)) where
   next_due : dues (state_of m) ≡ entry_of m (index + 1) ∷ dues (next_one (index + 1) (state_of m) (entry_of m (index + 1)))
   next_due =
@@ -92,18 +92,18 @@ module _ (m₀ : Memory) (o₀ : List ℕ) (at : ℕ) (m : Memory) (o : List ℕ
       ap write_saids (told_more (state_of m) (entry_of m (index + 1)) (index + 1) next_due (limits_of m))
       ∙ saids_append (told_of m (index + 1)) left_after
 
-  pub going_room : next + length (write_saids (told_of m (index + 1))) ≤ length o
+  pub going_room : Room (length (write_saids (told_of m (index + 1)))) v
   going_room =
       let room = g.room in
       let e = ap length first_left in
-      room_first (write_saids (told_of m (index + 1))) (write_saids left_after) next (length o) (omega arith)
+      room_first (write_saids (told_of m (index + 1))) (write_saids left_after) v (omega arith)
 
-  pub going_on : (m' : Memory) (o' : List ℕ) (count' next' : ℕ)
+  pub going_on : (m' : Memory) (v' : Writer) (count' : ℕ)
       → Turns m m' (next_one (index + 1) (state_of m) (entry_of m (index + 1)))
       (region_one (state_of m) (entry_of m (index + 1)) (region_in m))
-      → Writes next (write_saids (told_of m (index + 1))) o o' next' → count' ≡ count + length (told_of m (index + 1))
-      → Going m₀ o₀ at m' o' (index + 1) count' next'
-  going_on m' o' count' next' t w k =
+      → Wrote (write_saids (told_of m (index + 1))) v v' → count' ≡ count + length (told_of m (index + 1))
+      → Going m₀ v₀ m' v' (index + 1) count'
+  going_on m' v' count' t w k =
       let s : State = state_of m in
       let e : Entry = entry_of m (index + 1) in
       let s' : State = next_one (index + 1) s e in
@@ -132,13 +132,13 @@ module _ (m₀ : Memory) (o₀ : List ℕ) (at : ℕ) (m : Memory) (o : List ℕ
         region = ap (λ (x : State). region_all x (dues x) (region_in m')) t.state
             ∙ (ap (region_all s' (dues s')) t.region ∙ (sym (region_more s e (index + 1) next_due (region_in m)) ∙ g.region));
         room = room_next (write_saids (all_told m')) (omega arith) w;
-        bytes = λ o'' n v. g.bytes o'' n (writes_as (sym saids) (writes_then w v));
+        bytes = λ x h. g.bytes x (wrote_as (sym saids) (wrote_then w h));
         counted = omega arith;
         few = omega arith;
       }
 
 -- and none is left
-module _ (m₀ : Memory) (o₀ : List ℕ) (at : ℕ) (m : Memory) (o : List ℕ) (index count next : ℕ) (g : Going m₀ o₀ at m o index count next)
+module _ (m₀ : Memory) (v₀ : Writer) (m : Memory) (v : Writer) (index count : ℕ) (g : Going m₀ v₀ m v index count)
     (done : min (state_of m₀).commit (length (state_of m₀).log) ≤ index) where
   none_due : dues (state_of m) ≡ []
   none_due = let here = g.here in let commit = g.commit in let long = g.long in dues_none m.words.now (omega arith)
@@ -160,11 +160,11 @@ module _ (m₀ : Memory) (o₀ : List ℕ) (at : ℕ) (m : Memory) (o : List ℕ
         region = b.region ∙ (sym (ap (λ (z : List Entry). region_all s z (region_in m)) none_due) ∙ g.region);
       }
 
-  pub last_bytes : Writes at (write_saids (all_told m₀)) o₀ o next
+  pub last_bytes : Wrote (write_saids (all_told m₀)) v₀ v
   unfolding write_saids
   last_bytes =
       let room = g.room in
-      g.bytes o next (writes_as (sym (ap write_saids none_left)) (writes_none next o (omega arith)))
+      g.bytes v (wrote_as (sym (ap write_saids none_left)) (wrote_none v (omega arith)))
 
   pub last_count : count ≡ length (all_told m₀)
   last_count = let z = ap length none_left in let counted = g.counted in omega arith

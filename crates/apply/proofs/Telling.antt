@@ -1,11 +1,13 @@
 -- What a client is told: it stands in the client's session once the entry is applied, and its bytes are those of the session's parts.
-use Rattle.std.proofs.Common.{◌≡◌, ℕ, zero, suc, ◌+◌, ◌<◌, ◌≤◌, Bool, true, false, ◌&&◌, ◌||◌, eqb, List, [], ◌∷◌, ◌++◌, length, get_or, take, drop, Some, None, Option, sym, refl, ap, ◌∙◌, arith}
+use Rattle.std.proofs.Common.{◌≡◌, ℕ, zero, suc, ◌<◌, ◌≤◌, Bool, true, false, ◌&&◌, ◌||◌, eqb, List, [], ◌∷◌, ◌++◌, length, get_or, take, drop, Some, None, Option, sym, refl, ap, ◌∙◌, arith}
 use Rattle.std.proofs.lemmas.List.{append-nil}
 use Rattle.std.proofs.lemmas.Bool.{and_parts, eqb-true}
 use Rattle.servers.specs.Store.{pick, Reply, reply}
 use Rattle.servers.specs.Server.{Entry, Said, Cached, Limits, State, nth, set_at, no_cached, is_new, is_again, do_one, tell_one}
 use Rattle.texts.specs.Words.{perhaps_in}
 use Rattle.wire.specs.Write.{write_number, write_perhaps, write_said, write_saids}
+use Rattle.wire_write.specs.Put.{Room}
+use Rattle.wire_write.specs.declared.writer.Writer.{Writer}
 use Rattle.memory.specs.Words.{bit, cached_in}
 use Rattle.servers.proofs.Tests.{bool_by, pick_by, pick_true, pick_false}
 use Rattle.apply.specs.Applied.{session, answered, kept_for, told_client}
@@ -22,9 +24,9 @@ pub session_bytes : (c : ℕ) (ws : List ℕ)
 unfolding cached_in
 session_bytes c ws = refl
 
-pub room_said : (c at n : ℕ) (ws : List ℕ) → at + length (write_said (kept_for c (cached_in ws))) ≤ n
-    → at + length (write_number c ++ (write_number (get_or ws 1 0) ++ (reply_bytes 2 ws ++ reply_bytes 35 ws))) ≤ n
-room_said c at n ws h = let e = ap length (session_bytes c ws) in omega arith
+pub room_said : (c : ℕ) (ws : List ℕ) (v : Writer) → Room (length (write_said (kept_for c (cached_in ws)))) v
+    → Room (length (write_number c ++ (write_number (get_or ws 1 0) ++ (reply_bytes 2 ws ++ reply_bytes 35 ws)))) v
+room_said c ws v h = let e = ap length (session_bytes c ws) in omega arith
 
 -- one that is told
 pub one_said : (x : Said) → write_saids (x ∷ []) ≡ write_said x

@@ -1,5 +1,5 @@
 -- How many bytes telling takes. Assumes nothing: this is a statement.
-use Rattle.std.specs.Prelude.{ℕ, ◌*◌, ◌≤◌, List, length}
+use Rattle.std.specs.Prelude.{◌*◌, ◌≤◌, length}
 use Rattle.wire.specs.Write.{write_saids}
 use Rattle.state.specs.Memory.{room_in}
 use Rattle.state.specs.declared.memory.Memory.{Memory}

@@ -2,4 +2,4 @@ use Rattle.apply.proofs.Going.{Going}
 use Rattle.apply.proofs.all.apply_all.Given as goal
 
 abbrev pub invariant-loop-done : goal.invariant-loop-done
-invariant-loop-done l = Going l.initial.mem l.initial.out l.at l.mem l.out l.done l.told.count l.told.next
+invariant-loop-done l = Going l.fn.mem l.fn.to l.mem l.to l.done l.count

@@ -1,6 +1,6 @@
-use Rattle.std.proofs.Common.{ℕ, List, length, sym, ap, ◌∙◌, arith}
+use Rattle.std.proofs.Common.{ℕ, length, sym, ap, ◌∙◌, arith}
 use Rattle.wire.specs.Write.{write_saids}
-use Rattle.wire_write.proofs.Putting.{writes_as, writes_none}
+use Rattle.wire_write.proofs.Putting.{wrote_as, wrote_none}
 use Rattle.state.specs.Memory.{limits_of, state_of}
 use Rattle.apply.specs.Applied.{session, kept_for, told_client}
 use Rattle.apply.proofs.Telling.{one_said, told_none}
@@ -39,7 +39,7 @@ returns-in-Some c =
     let one = ap length x.1 in
     record {
       turns = t;
-      bytes = writes_as (sym (ap write_saids x.1 ∙ one_said (kept_for k (session (state_of m₂) k)))) c.tell.ensures;
+      bytes = wrote_as (sym (ap write_saids x.1 ∙ one_said (kept_for k (session (state_of m₂) k)))) c.tell.ensures;
       count = omega arith;
     }
 
@@ -55,6 +55,6 @@ returns-in-None c =
     let zero = ap length none in
     record {
       turns = next_turns m c.set_applied.new.self i b c.do_one.new.mem c.do_one.ensures.turns;
-      bytes = writes_as (sym (ap write_saids none)) (writes_none c.args.told.next c.args.out.now (omega arith));
+      bytes = wrote_as (sym (ap write_saids none)) (wrote_none c.args.to.now (omega arith));
       count = omega arith;
     }

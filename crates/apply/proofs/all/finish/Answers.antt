@@ -1,4 +1,4 @@
-use Rattle.std.proofs.Common.{◌≡◌, ℕ, List, ap}
+use Rattle.std.proofs.Common.{◌≡◌, ℕ, ap}
 use Rattle.servers.specs.Server.{with_applied, at_least}
 use Rattle.state.specs.Memory.{state_of}
 use Rattle.state.proofs.Laws.{said, at_least_is}

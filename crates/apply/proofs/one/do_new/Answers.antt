@@ -1,4 +1,4 @@
-use Rattle.std.proofs.Common.{◌≡◌, ℕ, List, ap, ◌∙◌}
+use Rattle.std.proofs.Common.{◌≡◌, ap, ◌∙◌}
 use Rattle.servers.specs.Store.{Command, Reply}
 use Rattle.texts.specs.Commands.{command_in}
 use Rattle.store.specs.Region.{region_do}

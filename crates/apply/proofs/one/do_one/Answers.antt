@@ -1,4 +1,4 @@
-use Rattle.std.proofs.Common.{◌≡◌, ℕ, true, false, List, sym, ◌∙◌}
+use Rattle.std.proofs.Common.{◌≡◌, true, false, sym, ◌∙◌}
 use Rattle.servers.specs.Server.{Entry, is_new}
 use Rattle.state.specs.Memory.{region_in, state_of}
 use Rattle.state.proofs.Laws.{stays, turns_said}
