@@ -1,5 +1,5 @@
 -- A letter is what stands before its message, and the message.
-use Rattle.std.proofs.Common.{◌≡◌, ℕ, ◌+◌, ◌-◌, List, ◌++◌, length, sym, refl, ap, ◌∙◌, subst, arith}
+use Rattle.std.proofs.Common.{◌≡◌, ℕ, ◌+◌, ◌-◌, List, ◌++◌, length, sym, refl, ap, ◌∙◌, arith}
 use Rattle.std.proofs.lemmas.List.{length-append}
 use Rattle.servers.specs.Server.{
   Entry,
@@ -17,9 +17,10 @@ use Rattle.servers.specs.Server.{
 }
 use Rattle.wire.specs.Write.{write_number, write_message, write_entries}
 use Rattle.wire_write.specs.Heads.{letter_head, append_head}
-use Rattle.wire_write.specs.Put.{Writes}
+use Rattle.wire_write.specs.Put.{Writes, Wrote}
+use Rattle.wire_write.specs.declared.writer.Writer.{Writer}
 use Rattle.wire_write.proofs.Answering.{append_parts}
-use Rattle.wire_write.proofs.Putting.{writes_as, writes_before, writes_then}
+use Rattle.wire_write.proofs.Putting.{writes_as, writes_before, wrote_as, wrote_then}
 use Rattle.wire_write.proofs.Texts.{length_number}
 use Rattle.raft_log.specs.Rows.{Row}
 use Rattle.raft_log.proofs.Places.{length_above}
@@ -29,14 +30,15 @@ use Rattle.sending.specs.Letters.{post, asks, append_from}
 
 -- the message stands there, then what is before it is written
 pub sealed :
-    {at e r to : ℕ} {xs ys zs : List ℕ} {m n : Message} → m ≡ n → Writes (at + 9) (write_message m) xs ys e
-    → Writes at (letter_head to (e - (at + 9))) ys zs (at + 9) → r ≡ e → Writes at (post to n) xs zs r
-sealed {at = at} {e = e} {to = to} {xs = xs} {zs = zs} {m = m} {n = n} q w h s =
-    let k = w.next in
-    let l : e - (at + 9) ≡ length (write_message m) = omega arith in
-    let p : Writes at (post to m) xs zs e =
-    writes_as (ap (λ (k : ℕ). letter_head to k ++ write_message m) l) (writes_before w h) in
-    subst (λ (k : ℕ). Writes at (post to n) xs zs k) (sym s) (writes_as (ap (post to) q) p)
+    {to : ℕ} {t u v w : Writer} {m n : Message} → m ≡ n → u.at ≡ t.at + 9 → u.out ≡ t.out → Wrote (write_message m) u v
+    → Writes t.at (letter_head to (v.at - (t.at + 9))) v.out.now w.out.now (t.at + 9) → w.out.ghost_name ≡ v.out.ghost_name → w.at ≡ v.at
+    → Wrote (post to n) t w
+sealed {to = to} {t = t} {u = u} {v = v} {w = w} {m = m} {n = n} q e o a h s r =
+    let b : Writes (t.at + 9) (write_message m) t.out.now v.out.now v.at = rw (← o, ← e) a.writes in
+    let k = b.next in
+    let l : v.at - (t.at + 9) ≡ length (write_message m) = omega arith in
+    let p = writes_as (ap (λ (k : ℕ). letter_head to k ++ write_message m) l) (writes_before b h) in
+    wrote_as (ap (post to) q) (record { same = s ∙ (a.same ∙ rw o refl); writes = rw r p })
 
 pub length_post : (to : ℕ) (m : Message) → length (post to m) ≡ 9 + length (write_message m)
 length_post to m =
@@ -50,16 +52,15 @@ length_append_message t i u c es = omega arith
 
 -- an append's head, and its entries from the log
 pub append_written :
-    {at n r : ℕ} {xs ys zs : List ℕ} (t i u c k : ℕ) (log : List Entry) → Row log → u ≡ term_of (entry_at i log) → k ≡ length log - i
-    → Writes at (append_head t i u c k) xs ys n → Writes n (write_entries (above i log)) ys zs r
-    → Writes at (write_message (append_from log t i c)) xs zs r
+    {x y z : Writer} (t i u c k : ℕ) (log : List Entry) → Row log → u ≡ term_of (entry_at i log) → k ≡ length log - i
+    → Wrote (append_head t i u c k) x y → Wrote (write_entries (above i log)) y z → Wrote (write_message (append_from log t i c)) x z
 append_written t i u c k log row e f w v =
     let es : List Entry = above i log in
-    writes_as
+    wrote_as
     (ap (λ (x : ℕ). append_head t i x c k ++ write_entries es) e
     ∙ (ap (λ (x : ℕ). append_head t i (term_of (entry_at i log)) c x ++ write_entries es) (f ∙ sym (length_above i log row))
     ∙ append_parts t i (term_of (entry_at i log)) c es))
-    (writes_then w v)
+    (wrote_then w v)
 
 -- what is read from a memory is what its state says
 pub same_append :

@@ -5,8 +5,9 @@ use Rattle.std.proofs.lemmas.Bool.{cases_eq, cases_lt, eq-eqb, ne_eqb}
 use Rattle.servers.specs.Store.{pick}
 use Rattle.servers.specs.Server.{Message, Letter, to_others}
 use Rattle.wire.specs.Write.{write_letter, write_letters}
-use Rattle.wire_write.specs.Put.{Writes}
-use Rattle.wire_write.proofs.Putting.{writes_as, writes_then}
+use Rattle.wire_write.specs.Put.{Room, Wrote}
+use Rattle.wire_write.specs.declared.writer.Writer.{Writer}
+use Rattle.wire_write.proofs.Putting.{wrote_as, wrote_none, wrote_then}
 use Rattle.sending.specs.Letters.{post}
 
 pub letters_append : (xs ys : List Letter) → write_letters (xs ++ ys) ≡ write_letters xs ++ write_letters ys
@@ -18,9 +19,9 @@ letters_append (x ∷ xs) ys = rw (letters_append xs ys) (sym (append_assoc (wri
 abbrev pub sent_bytes : ℕ → ℕ → (ℕ → Message) → List ℕ
 sent_bytes n m f = write_letters (to_others n m f)
 
-pub sent_start : {at r : ℕ} {xs ys : List ℕ} (m : ℕ) (f : ℕ → Message) → Writes at [] xs ys r → Writes at (sent_bytes 0 m f) xs ys r
+pub sent_start : (v : Writer) (m : ℕ) (f : ℕ → Message) → Room 0 v → Wrote (sent_bytes 0 m f) v v
 unfolding to_others write_letters
-sent_start m f w = w
+sent_start v m f h = wrote_none v h
 
 -- one server more
 sent_step :
@@ -47,18 +48,16 @@ sent_none n m f h =
 
 -- a writer's promise with one letter more, and with none for the server itself
 pub sent_on :
-    {at n r : ℕ} {xs ys zs : List ℕ} (h m : ℕ) (f : ℕ → Message) → h ≢ m → Writes at (sent_bytes h m f) xs ys n
-    → Writes n (post h (f h)) ys zs r → Writes at (sent_bytes (h + 1) m f) xs zs r
-sent_on h m f q w v = writes_as (sent_more h m f q) (writes_then w v)
+    {u v w : Writer} (h m : ℕ) (f : ℕ → Message) → h ≢ m → Wrote (sent_bytes h m f) u v → Wrote (post h (f h)) v w
+    → Wrote (sent_bytes (h + 1) m f) u w
+sent_on h m f q a b = wrote_as (sent_more h m f q) (wrote_then a b)
 
-pub sent_past :
-    {at r : ℕ} {xs ys : List ℕ} (h m : ℕ) (f : ℕ → Message) → h ≡ m → Writes at (sent_bytes h m f) xs ys r
-    → Writes at (sent_bytes (h + 1) m f) xs ys r
-sent_past h m f q w = writes_as (sent_none h m f q) w
+pub sent_past : {u v : Writer} (h m : ℕ) (f : ℕ → Message) → h ≡ m → Wrote (sent_bytes h m f) u v → Wrote (sent_bytes (h + 1) m f) u v
+sent_past h m f q a = wrote_as (sent_none h m f q) a
 
--- the same bytes and place by other names
-pub same_end : {at r n : ℕ} {bs xs ys zs : List ℕ} → zs ≡ ys → n ≡ r → Writes at bs xs ys r → Writes at bs xs zs n
-same_end e q w = rw (e, q) w
+-- the same by another name
+pub same_end : {bs : List ℕ} {u v w : Writer} → w ≡ v → Wrote bs u v → Wrote bs u w
+same_end e a = rw e a
 
 -- those to fewer are no longer
 pub sent_fewer : (n k m : ℕ) (f : ℕ → Message) → n ≤ k → length (sent_bytes n m f) ≤ length (sent_bytes k m f)

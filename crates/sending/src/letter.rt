@@ -1,71 +1,71 @@
 // One letter. Its message is written first, past the room for to whom it goes and how long it is: so each byte is written once, and
 // no length has to be known before.
-ghost use Rattle.std.specs.Prelude.{◌≡◌, ℕ, ◌+◌, ◌-◌, ◌<◌, ◌≤◌, length};
+ghost use Rattle.std.specs.Prelude.{◌≡◌, ◌+◌, ◌-◌, ◌<◌, ◌≤◌, length};
 ghost use Rattle.servers.specs.Server.{State, Message, vote, appended, next_for, to_server};
 ghost use Rattle.wire_write.specs.Heads.{letter_head};
-ghost use Rattle.wire_write.specs.Put.{Writes};
+ghost use Rattle.wire_write.specs.Put.{Room, Writes, Wrote};
 ghost use Rattle.state.specs.Memory.{servers_in, state_of};
 ghost use Rattle.sending.specs.Letters.{post, asks};
 
 use crate::append::write_append;
 use raft_log::find::last_term;
 use state::memory::Memory;
-use wire_write::answer::write_letter_head;
-use wire_write::message::{write_appended, write_ask_vote, write_vote};
+use wire_write::writer::Writer;
 
 // How many bytes stand before the message.
 const HEAD: usize = 9;
 
-// What stands before the message that ends there.
-fn seal(out: &mut [u8], at: usize, to: u8, end: usize) -> usize
-    requires whole { at + 9 ≤ end }
-    requires there { end ≤ length out.old }
-    ensures head { Writes at (letter_head to (end - (at + 9))) out.old out.new (at + 9) }
-    ensures same { result ≡ end }
+// What stands before the message that was written last.
+fn seal(to: &mut Writer<'_>, at: usize, h: u8)
+    requires whole { at + 9 ≤ to.old.at }
+    requires there { to.old.at ≤ length to.old.out.now }
+    ensures same { to.new.out.ghost_name ≡ to.old.out.ghost_name }
+    ensures head { Writes at (letter_head h (to.old.at - (at + 9))) to.old.out.now to.new.out.now (at + 9) }
+    ensures end { to.new.at ≡ to.old.at }
 {
-    let message = at + HEAD;
-    write_letter_head(out, at, to, (end - message) as u64);
-    end
+    let end = to.at;
+    to.at = at;
+    to.letter_head(h, (end - (at + HEAD)) as u64);
+    to.at = end;
 }
 
 // The reply to RequestVote.
-pub fn write_vote_letter(out: &mut [u8], at: usize, to: u8, term: u64, granted: bool) -> usize
-    requires { at + 19 ≤ length out.old }
-    ensures bytes { Writes at (post to (vote term granted)) out.old out.new result }
-    ensures next { result ≡ at + 19 }
+pub fn write_vote_letter(to: &mut Writer<'_>, h: u8, term: u64, granted: bool)
+    requires room { Room 19 to.old }
+    ensures bytes { Wrote (post h (vote term granted)) to.old to.new }
+    ensures at { to.new.at ≡ to.old.at + 19 }
 {
-    let end = write_vote(out, at + HEAD, term, granted);
-    seal(out, at, to, end)
+    let at = to.at;
+    to.at += HEAD;
+    to.vote(term, granted);
+    seal(to, at, h);
 }
 
 // The reply to AppendEntries.
-pub fn write_appended_letter(
-    out: &mut [u8],
-    at: usize,
-    to: u8,
-    term: u64,
-    index: u64,
-    ok: bool,
-) -> usize
-    requires { at + 27 ≤ length out.old }
-    ensures bytes { Writes at (post to (appended term index ok)) out.old out.new result }
-    ensures next { result ≡ at + 27 }
+pub fn write_appended_letter(to: &mut Writer<'_>, h: u8, term: u64, index: u64, ok: bool)
+    requires room { Room 27 to.old }
+    ensures bytes { Wrote (post h (appended term index ok)) to.old to.new }
+    ensures at { to.new.at ≡ to.old.at + 27 }
 {
-    let end = write_appended(out, at + HEAD, term, index, ok);
-    seal(out, at, to, end)
+    let at = to.at;
+    to.at += HEAD;
+    to.appended(term, index, ok);
+    seal(to, at, h);
 }
 
 // RequestVote of who stands in its term.
-pub fn write_ask_letter(mem: &Memory<'_>, out: &mut [u8], at: usize, h: usize) -> usize
+pub fn write_ask_letter(mem: &Memory<'_>, to: &mut Writer<'_>, h: usize)
     requires here { h < servers_in mem.now }
-    requires room { at + length (post h (asks (state_of mem.now))) ≤ length out.old }
-    ensures { Writes at (post h (asks (state_of mem.now))) out.old out.new result }
+    requires room { Room (length (post h (asks (state_of mem.now)))) to.old }
+    ensures { Wrote (post h (asks (state_of mem.now))) to.old to.new }
 {
     let term = mem.term();
     let len = mem.last_index();
     let last = last_term(mem.log());
-    let end = write_ask_vote(out, at + HEAD, term, len, last);
-    seal(out, at, h as u8, end)
+    let at = to.at;
+    to.at += HEAD;
+    to.ask_vote(term, len, last);
+    seal(to, at, h as u8);
 }
 
 // The index before the next one for a server: entries are sent from there on.
@@ -77,14 +77,16 @@ fn sent_before(mem: &Memory<'_>, h: usize) -> u64
 }
 
 // AppendEntries: the entries from a server's next index on.
-pub fn write_entries_letter(mem: &Memory<'_>, out: &mut [u8], at: usize, h: usize) -> usize
+pub fn write_entries_letter(mem: &Memory<'_>, to: &mut Writer<'_>, h: usize)
     requires here { h < servers_in mem.now }
-    requires room { at + length (post h (to_server (state_of mem.now) h)) ≤ length out.old }
-    ensures { Writes at (post h (to_server (state_of mem.now) h)) out.old out.new result }
+    requires room { Room (length (post h (to_server (state_of mem.now) h))) to.old }
+    ensures { Wrote (post h (to_server (state_of mem.now) h)) to.old to.new }
 {
     let before = sent_before(mem, h);
     let term = mem.term();
     let commit = mem.commit();
-    let end = write_append(out, at + HEAD, mem.log(), term, before, commit);
-    seal(out, at, h as u8, end)
+    let at = to.at;
+    to.at += HEAD;
+    write_append(to, mem.log(), term, before, commit);
+    seal(to, at, h as u8);
 }

@@ -1,14 +1,15 @@
 // What is sent to all other servers.
-ghost use Rattle.std.specs.Prelude.{◌≡◌, ℕ, ◌+◌, ◌-◌, ◌<◌, ◌≤◌, length};
+ghost use Rattle.std.specs.Prelude.{◌≡◌, ℕ, ◌<◌, length};
 ghost use Rattle.servers.specs.Server.{Message, to_others};
 ghost use Rattle.wire.specs.Write.{write_letters};
-ghost use Rattle.wire_write.specs.Put.{Writes};
+ghost use Rattle.wire_write.specs.Put.{Room, Wrote};
 ghost use Rattle.state.specs.Memory.{me_in, servers_in, state_of};
 ghost use Rattle.sending.specs.Letters.{post, asks_to_all, entries_to_all};
 ghost use Rattle.sending.specs.Others.{message_to, letters_to_all};
 
 use crate::letter::{write_ask_letter, write_entries_letter};
 use state::memory::Memory;
+use wire_write::writer::Writer;
 
 // Who stands asks for votes; who leads sends entries. As a closure, each letter's promise would be stated again over references to bytes.
 #[derive(Clone, Copy)]
@@ -24,43 +25,41 @@ pub fn others(mem: &Memory<'_>) -> u64
     mem.limits().servers - 1
 }
 
-fn write_one(mem: &Memory<'_>, out: &mut [u8], at: usize, h: usize, sent: Sent) -> usize
+fn write_one(mem: &Memory<'_>, to: &mut Writer<'_>, h: usize, sent: Sent)
     requires here { h < servers_in mem.now }
-    requires room { at + length (post h (message_to sent (state_of mem.now) h)) ≤ length out.old }
-    ensures { Writes at (post h (message_to sent (state_of mem.now) h)) out.old out.new result }
+    requires room { Room (length (post h (message_to sent (state_of mem.now) h))) to.old }
+    ensures { Wrote (post h (message_to sent (state_of mem.now) h)) to.old to.new }
 {
     match sent {
-        Sent::Ask => write_ask_letter(mem, out, at, h),
-        Sent::Entries => write_entries_letter(mem, out, at, h),
+        Sent::Ask => write_ask_letter(mem, to, h),
+        Sent::Entries => write_entries_letter(mem, to, h),
     }
 }
 
-fn write_all(mem: &Memory<'_>, out: &mut [u8], at: usize, sent: Sent) -> usize
-    requires room { at + length (write_letters (letters_to_all sent mem.now)) ≤ length out.old }
-    ensures { Writes at (write_letters (letters_to_all sent mem.now)) out.old out.new result }
+fn write_all(mem: &Memory<'_>, to: &mut Writer<'_>, sent: Sent)
+    requires room { Room (length (write_letters (letters_to_all sent mem.now))) to.old }
+    ensures { Wrote (write_letters (letters_to_all sent mem.now)) to.old to.new }
 {
     let all = mem.limits();
-    let mut next = at;
     for h in 0..all.servers as usize {
         if h != all.me as usize {
-            next = write_one(mem, out, next, h, sent);
+            write_one(mem, to, h, sent);
         }
     }
-    next
 }
 
 // A candidate's letters, of the term that it stands in.
-pub fn ask_all(mem: &Memory<'_>, out: &mut [u8], at: usize) -> usize
-    requires room { at + length (write_letters (asks_to_all mem.now)) ≤ length out.old }
-    ensures { Writes at (write_letters (asks_to_all mem.now)) out.old out.new result }
+pub fn ask_all(mem: &Memory<'_>, to: &mut Writer<'_>)
+    requires room { Room (length (write_letters (asks_to_all mem.now))) to.old }
+    ensures { Wrote (write_letters (asks_to_all mem.now)) to.old to.new }
 {
-    write_all(mem, out, at, Sent::Ask)
+    write_all(mem, to, Sent::Ask);
 }
 
 // A leader's.
-pub fn to_all(mem: &Memory<'_>, out: &mut [u8], at: usize) -> usize
-    requires room { at + length (write_letters (entries_to_all mem.now)) ≤ length out.old }
-    ensures { Writes at (write_letters (entries_to_all mem.now)) out.old out.new result }
+pub fn to_all(mem: &Memory<'_>, to: &mut Writer<'_>)
+    requires room { Room (length (write_letters (entries_to_all mem.now))) to.old }
+    ensures { Wrote (write_letters (entries_to_all mem.now)) to.old to.new }
 {
-    write_all(mem, out, at, Sent::Entries)
+    write_all(mem, to, Sent::Entries);
 }

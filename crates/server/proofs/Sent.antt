@@ -1,10 +1,11 @@
 -- Letters one after the other: how many bytes, and the promise of who writes them.
-use Rattle.std.proofs.Common.{◌≡◌, ℕ, ◌+◌, Bool, true, false, List, [], ◌∷◌, ◌++◌, length, sym, refl, ap, ◌∙◌, subst}
+use Rattle.std.proofs.Common.{◌≡◌, ℕ, ◌+◌, Bool, true, false, List, [], ◌∷◌, ◌++◌, length, sym, refl, ap, ◌∙◌}
 use Rattle.std.proofs.lemmas.List.{append_assoc, append-nil, length-append}
 use Rattle.servers.specs.Server.{Letter, Message, vote, appended}
 use Rattle.wire.specs.Write.{write_letter, write_letters, write_number}
-use Rattle.wire_write.specs.Put.{Writes}
-use Rattle.wire_write.proofs.Putting.{writes_as, writes_then}
+use Rattle.wire_write.specs.Put.{Room, Wrote}
+use Rattle.wire_write.specs.declared.writer.Writer.{Writer}
+use Rattle.wire_write.proofs.Putting.{wrote_as, wrote_none, wrote_then}
 use Rattle.sending.specs.Letters.{post}
 
 pub letters_append : (xs ys : List Letter) → write_letters (xs ++ ys) ≡ write_letters xs ++ write_letters ys
@@ -20,9 +21,9 @@ pub letters_one : (h : ℕ) (m : Message) → write_letters (record { to = h; me
 unfolding write_letters
 letters_one h m = append-nil (post h m)
 
-pub letters_none : write_letters [] ≡ []
+pub letters_none : (v : Writer) → Room 0 v → Wrote (write_letters []) v v
 unfolding write_letters
-letters_none = refl
+letters_none v h = wrote_none v h
 
 pub length_vote : (h t : ℕ) (ok : Bool) → length (write_letters (record { to = h; message = vote t ok } ∷ [])) ≡ 19
 unfolding write_letters write_number
@@ -36,10 +37,8 @@ length_reply h t i false = refl
 
 -- the number of letters, those that go first, and the others
 pub all_sent :
-    {at a b r k : ℕ} {xs ys zs ws : List ℕ} (ls es : List Letter) → k ≡ length (ls ++ es) → Writes at (write_number k) xs ys a
-    → Writes a (write_letters ls) ys zs b → Writes b (write_letters es) zs ws r
-    → Writes at (write_number (length (ls ++ es)) ++ write_letters (ls ++ es)) xs ws r
-all_sent {at = at} {r = r} {k = k} {xs = xs} {ws = ws} ls es e u v w =
-    let both = writes_as (sym (letters_append ls es)) (writes_then v w) in
-    let all = writes_then u both in
-    subst (λ (n : ℕ). Writes at (write_number n ++ write_letters (ls ++ es)) xs ws r) e all
+    {k : ℕ} {t u v w : Writer} (ls es : List Letter) → k ≡ length (ls ++ es) → Wrote (write_number k) t u → Wrote (write_letters ls) u v
+    → Wrote (write_letters es) v w → Wrote (write_number (length (ls ++ es)) ++ write_letters (ls ++ es)) t w
+all_sent ls es e a b c =
+    wrote_as (ap (λ (n : ℕ). write_number n ++ write_letters (ls ++ es)) e)
+    (wrote_then a (wrote_as (sym (letters_append ls es)) (wrote_then b c)))

@@ -12,7 +12,8 @@ use Rattle.wire_write.specs.declared.answer.Answer.{Answer}
 use Rattle.wire_write.specs.declared.answer.Answer.TheVariants.{Does}
 use Rattle.wire_write.proofs.Answering.{written_means}
 use Rattle.wire_write.proofs.Putting.{writes_then, writes_before, length_put}
-use Rattle.server.specs.Answered.{Begins}
+use Rattle.state.specs.declared.memory.Memory.{Memory}
+use Rattle.server.specs.Answered.{Begins, Finished}
 
 pub begins : {r : ℕ} {bs xs ys : List ℕ} → Writes 0 bs xs ys r → Begins bs xs ys
 begins {bs = bs} {xs = xs} {ys = ys} w =
@@ -63,3 +64,7 @@ does_answered {k = k} {j = j} {n = n} {xs = xs} {ys = ys} {ss = ss} {ts = ts} {l
           ∙ (ap (Does (length ss) (length ls)) m ∙ ap answer_of d)),
       subst (λ (a : server.Answer). Begins (write_answer a) xs ys) d (begins w),
     )
+
+-- the bytes by another name
+pub finished_as : {m m' : Memory} {xs ys zs : List ℕ} {ls : List Letter} {r : Answer} → zs ≡ ys → Finished m xs m' ys ls r → Finished m xs m' zs ls r
+finished_as e d = rw e d

@@ -10,7 +10,8 @@ use crate::settle::take_send;
 use apply::all::apply_all;
 use replication::commit::settle;
 use state::memory::Memory;
-use wire_write::answer::{Answer, write_does_head};
+use wire_write::answer::Answer;
+use wire_write::writer::Writer;
 
 // Where what is told begins: after one byte and its number.
 const TOLD: usize = 9;
@@ -23,8 +24,11 @@ pub fn finish(mem: &mut Memory<'_>, out: &mut [u8], first: First) -> Answer
 {
     settle(mem);
     let send = take_send(mem);
-    let told = apply_all(mem, out, TOLD);
-    let sent = write_letters(mem, out, told.next, first, send);
-    write_does_head(out, 0, told.count);
-    Answer::Does(told.count, sent.count, sent.end)
+    let mut to = Writer { out, at: TOLD };
+    let told = apply_all(mem, &mut to);
+    let letters = write_letters(mem, &mut to, first, send);
+    let end = to.at;
+    to.at = 0;
+    to.does_head(told);
+    Answer::Does(told, letters, end)
 }

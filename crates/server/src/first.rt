@@ -1,14 +1,14 @@
 // The letters of an answer: first those that the event itself leaves to be sent, then entries to all.
 ghost use Rattle.std.specs.Prelude.{◌≡◌, ◌+◌, ◌≤◌, ◌++◌, length};
 ghost use Rattle.wire.specs.Write.{write_letters, write_number};
-ghost use Rattle.wire_write.specs.Put.{Writes};
+ghost use Rattle.wire_write.specs.Put.{Room, Wrote};
 ghost use Rattle.state.specs.Memory.{limits_of, state_of};
 ghost use Rattle.server.specs.First.{first_of, entries_if, letters_of};
 
 use sending::letter::{write_appended_letter, write_vote_letter};
 use sending::others::{ask_all, others, to_all};
 use state::memory::Memory;
-use wire_write::put::write_number;
+use wire_write::writer::Writer;
 
 // What goes out before entries: nothing, requests for votes, a vote to a server, or a reply to entries.
 #[derive(Clone, Copy)]
@@ -38,46 +38,39 @@ fn count_entries(mem: &Memory<'_>, send: bool) -> u64
     if send { others(mem) } else { 0 }
 }
 
-fn write_first(mem: &Memory<'_>, out: &mut [u8], at: usize, first: First) -> usize
-    requires room { at + length (write_letters (first_of (limits_of mem.now) (state_of mem.now) first)) ≤ length out.old }
-    ensures { Writes at (write_letters (first_of (limits_of mem.now) (state_of mem.now) first))
-        out.old out.new result }
+fn write_first(mem: &Memory<'_>, to: &mut Writer<'_>, first: First)
+    requires room { Room (length (write_letters (first_of (limits_of mem.now) (state_of mem.now) first))) to.old }
+    ensures { Wrote (write_letters (first_of (limits_of mem.now) (state_of mem.now) first)) to.old to.new }
 {
     match first {
-        First::Nothing => at,
-        First::Asks => ask_all(mem, out, at),
-        First::Vote(to, term, granted) => write_vote_letter(out, at, to, term, granted),
-        First::Reply(to, term, index, ok) => write_appended_letter(out, at, to, term, index, ok),
+        First::Nothing => {}
+        First::Asks => ask_all(mem, to),
+        First::Vote(h, term, granted) => write_vote_letter(to, h, term, granted),
+        First::Reply(h, term, index, ok) => write_appended_letter(to, h, term, index, ok),
     }
 }
 
-fn write_entries_if(mem: &Memory<'_>, out: &mut [u8], at: usize, send: bool) -> usize
-    requires room { at + length (write_letters (entries_if send (limits_of mem.now) (state_of mem.now))) ≤ length out.old }
-    ensures { Writes at (write_letters (entries_if send (limits_of mem.now) (state_of mem.now)))
-        out.old out.new result }
+fn write_entries_if(mem: &Memory<'_>, to: &mut Writer<'_>, send: bool)
+    requires room { Room (length (write_letters (entries_if send (limits_of mem.now) (state_of mem.now)))) to.old }
+    ensures { Wrote (write_letters (entries_if send (limits_of mem.now) (state_of mem.now))) to.old to.new }
 {
-    if send { to_all(mem, out, at) } else { at }
+    if send {
+        to_all(mem, to);
+    }
 }
 
-// How many letters, and where the bytes end.
-#[derive(Clone, Copy)]
-pub struct Sent {
-    pub count: u64,
-    pub end: usize,
-}
-
-// The letters, with their number before them.
-pub fn write_letters(mem: &Memory<'_>, out: &mut [u8], at: usize, first: First, send: bool) -> Sent
-    requires room { at + 8 + length (write_letters (letters_of send (limits_of mem.now) (state_of mem.now) first)) ≤ length out.old }
-    ensures count { result.count ≡ length (letters_of send (limits_of mem.now) (state_of mem.now) first) }
-    ensures bytes { Writes at
+// The letters, with their number before them, which is returned.
+pub fn write_letters(mem: &Memory<'_>, to: &mut Writer<'_>, first: First, send: bool) -> u64
+    requires room { Room (8 + length (write_letters (letters_of send (limits_of mem.now) (state_of mem.now) first))) to.old }
+    ensures count { result ≡ length (letters_of send (limits_of mem.now) (state_of mem.now) first) }
+    ensures bytes { Wrote
         (write_number (length (letters_of send (limits_of mem.now) (state_of mem.now) first))
         ++ write_letters (letters_of send (limits_of mem.now) (state_of mem.now) first))
-        out.old out.new result.end }
+        to.old to.new }
 {
     let count = count_first(mem, first) + count_entries(mem, send);
-    let n0 = write_number(out, at, count);
-    let n1 = write_first(mem, out, n0, first);
-    let end = write_entries_if(mem, out, n1, send);
-    Sent { count, end }
+    to.number(count);
+    write_first(mem, to, first);
+    write_entries_if(mem, to, send);
+    count
 }

@@ -7,7 +7,8 @@ ghost use Rattle.checks.specs.Outcome.{refusal_number, refusal_place};
 ghost use Rattle.server.specs.Answered.{Begins};
 
 use checks::refusal::Refusal;
-use wire_write::answer::{Answer, write_refused};
+use wire_write::answer::Answer;
+use wire_write::writer::Writer;
 
 pub fn refuse(out: &mut [u8], refusal: Refusal) -> Answer
     requires room { 10 ≤ length out.old }
@@ -17,6 +18,7 @@ pub fn refuse(out: &mut [u8], refusal: Refusal) -> Answer
 {
     let number = refusal.number();
     let place = refusal.place();
-    write_refused(out, 0, number, place);
+    let mut to = Writer { out, at: 0 };
+    to.refused(number, place);
     Answer::Refused(number, place)
 }

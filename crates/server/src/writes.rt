@@ -19,7 +19,8 @@ use entries::append::append;
 use entries::request::request;
 use state::memory::Memory;
 use wire_read::parts::{Command, Entries};
-use wire_write::answer::{Answer, write_not_leader};
+use wire_write::answer::Answer;
+use wire_write::writer::Writer;
 
 // Whether the log of a leader has no room for an entry more.
 fn is_full(mem: &Memory<'_>) -> bool
@@ -40,8 +41,10 @@ fn decline(mem: &mut Memory<'_>, out: &mut [u8]) -> Answer
     ensures answer { result ≡ answer_of not_leader }
     ensures bytes { Begins (write_answer not_leader) out.old out.new }
 {
-    apply_all(mem, out, 9);
-    write_not_leader(out, 0);
+    let mut to = Writer { out, at: 9 };
+    apply_all(mem, &mut to);
+    to.at = 0;
+    to.not_leader();
     Answer::NotLeader
 }
 

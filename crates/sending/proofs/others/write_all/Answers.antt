@@ -1,9 +1,9 @@
-use Rattle.std.proofs.Common.{ℕ, ◌+◌, List, length, ap, ◌∙◌, arith}
+use Rattle.std.proofs.Common.{ℕ, ◌+◌, length, ap, ◌∙◌, arith}
 use Rattle.std.proofs.lemmas.List.{length-append}
 use Rattle.servers.specs.Server.{Message}
 use Rattle.servers.specs.declared.limits.Limits.{Limits}
 use Rattle.state.specs.Memory.{me_in, servers_in, state_of}
-use Rattle.wire_write.proofs.Putting.{writes_none}
+use Rattle.wire_write.proofs.Putting.{length_wrote}
 use Rattle.sending.specs.Letters.{post}
 use Rattle.sending.specs.Others.{message_to}
 use Rattle.sending.proofs.others.write_all.Goals as goal
@@ -14,10 +14,11 @@ pub loop-h-init : goal.loop-h-init
 loop-h-init c =
     let m = c.args.mem.now in
     let f : (ℕ → Message) = message_to c.args.sent (state_of m) in
-    sent_start (me_in m) f (writes_none c.args.at c.args.out.now (omega arith))
+    let room = c.requires.room in
+    sent_start c.args.to.now (me_in m) f (omega arith)
 
-pub write_one-next-requires : goal.write_one-next-requires
-write_one-next-requires c =
+pub write_one-requires : goal.write_one-requires
+write_one-requires c =
     let m = c.args.mem.now in
     let h : ℕ = c.loop-h.h in
     let f : (ℕ → Message) = message_to c.args.sent (state_of m) in
@@ -26,7 +27,9 @@ write_one-next-requires c =
     let a = ap length (sent_more h (me_in m) f (λ z. c.if-h-all.true (omega arith))) in
     let b = length-append (sent_bytes h (me_in m) f) (post h (f h)) in
     let d = sent_fewer (h + 1) (servers_in m) (me_in m) f (omega arith) in
-    let n = c.loop-h.invariant.next in
+    let n = c.loop-h.invariant.writes.next in
+    let same = length_wrote c.loop-h.invariant in
+    let room = c.requires.room in
     record { here = omega arith; room = omega arith }
 
 pub loop-h-preserved : goal.loop-h-preserved
@@ -37,7 +40,7 @@ loop-h-preserved c =
     let me = ap (λ (l : Limits). l.me) c.limits-all.ensures in
     elim c.if-h-all.branch [
       | then-h-all w ↦
-          same_end w.out-is w.next-is
-          (sent_on h (me_in m) f (λ z. w.if-h-all.true (omega arith)) c.loop-h.invariant w.write_one-next.ensures)
-      | else-h-all w ↦ same_end w.out-is w.next-is (sent_past h (me_in m) f (w.if-h-all.false ∙ me) c.loop-h.invariant)
+          same_end w.to-is
+          (sent_on h (me_in m) f (λ z. w.if-h-all.true (omega arith)) c.loop-h.invariant w.write_one.ensures)
+      | else-h-all w ↦ same_end w.to-is (sent_past h (me_in m) f (w.if-h-all.false ∙ me) c.loop-h.invariant)
     ]

@@ -1,4 +1,4 @@
-use Rattle.wire_write.specs.Put.{Writes}
+use Rattle.wire_write.specs.Put.{Wrote}
 use Rattle.state.specs.Memory.{me_in, state_of}
 use Rattle.sending.specs.Others.{message_to}
 use Rattle.sending.proofs.ToAll.{sent_bytes}
@@ -7,4 +7,4 @@ use Rattle.sending.proofs.others.write_all.Given as goal
 -- the letters to the servers so far
 abbrev pub invariant-loop-h : goal.invariant-loop-h
 invariant-loop-h l =
-    Writes l.at (sent_bytes l.h (me_in l.mem) (message_to l.sent (state_of l.mem))) l.initial.out l.out l.next
+    Wrote (sent_bytes l.h (me_in l.mem) (message_to l.sent (state_of l.mem))) l.fn.to l.to

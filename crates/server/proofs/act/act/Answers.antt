@@ -1,4 +1,4 @@
-use Rattle.std.proofs.Common.{ℕ, List, Ok, Err, ap, ◌∙◌}
+use Rattle.std.proofs.Common.{Ok, Err, ap, ◌∙◌}
 use Rattle.wire_read.specs.Means.{means}
 use Rattle.checks.specs.Outcome.{Checked}
 use Rattle.checks.proofs.Handing.{turned_refused}

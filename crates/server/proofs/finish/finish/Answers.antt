@@ -1,12 +1,11 @@
-use Rattle.std.proofs.Common.{ℕ, List, length, ap, ◌∙◌, arith}
+use Rattle.std.proofs.Common.{rules, ◌≡◌, length, ap, ◌∙◌, arith}
 use Rattle.servers.specs.Server.{Limits, tell_all, dues}
-use Rattle.wire.specs.Write.{write_saids}
-use Rattle.wire_write.proofs.Putting.{length_put}
+use Rattle.wire_write.proofs.Putting.{length_wrote}
 use Rattle.state.specs.Memory.{limits_of, state_of}
 use Rattle.apply.proofs.Sizes.{told_fits}
 use Rattle.server.specs.First.{letters_of}
 use Rattle.server.proofs.Finishing.{Pieces, pieces_turn, pieces_tell, pieces_send, letters_fit}
-use Rattle.server.proofs.Written.{does_written, does_answered}
+use Rattle.server.proofs.Written.{does_written, does_answered, finished_as}
 use Rattle.server.proofs.finish.finish.Goals as goal
 
 pub apply_all-told-requires : goal.apply_all-told-requires
@@ -17,8 +16,8 @@ apply_all-told-requires c =
     let room = c.requires.room.told in
     record { room = omega arith }
 
-pub write_letters-sent-requires : goal.write_letters-sent-requires
-write_letters-sent-requires c =
+pub write_letters-letters-requires : goal.write_letters-letters-requires
+write_letters-letters-requires c =
     let m = c.args.mem.now in
     let m₁ = c.settle.new.mem in
     let m₂ = c.take_send-send.new.mem in
@@ -30,11 +29,8 @@ write_letters-sent-requires c =
       done = c.apply_all-told.ensures.turns;
     } in
     let fit = letters_fit m m₁ m₂ m₃ c.take_send-send.result c.args.first (length c.args.out.now) p c.requires.room.answer in
-    let w = c.apply_all-told.ensures.bytes in
-    let next = w.next in
-    let room = w.room in
-    let ss : List ℕ = write_saids (tell_all (limits_of m₂) (state_of m₂) (dues (state_of m₂))) in
-    let same = ap length w.bytes ∙ length_put 9 ss c.args.out.now (omega arith) in
+    let next = c.apply_all-told.ensures.bytes.writes.next in
+    let same : length c.apply_all-told.new.to.out.now ≡ length c.args.out.now = length_wrote c.apply_all-told.ensures.bytes in
     record { room = omega arith }
 
 pub returns : goal.returns
@@ -52,8 +48,8 @@ returns c =
     } in
     let ss = tell_all (limits_of m₂) (state_of m₂) (dues (state_of m₂)) in
     let ls = letters_of b (limits_of m₃) (state_of m₃) c.args.first in
-    let w = does_written ss ls c.apply_all-told.ensures.count c.apply_all-told.ensures.bytes
-    c.write_letters-sent.ensures.bytes c.write_does_head.ensures.bytes (omega (arith, c.write_does_head.ensures.next)) in
+    let w = does_written ss ls c.apply_all-told.ensures.count c.apply_all-told.ensures.bytes.writes
+    c.write_letters-letters.ensures.bytes.writes c.does_head.ensures.bytes.writes (omega (arith, c.does_head.ensures.at)) in
     let a = does_answered (pieces_tell m m₁ m₂ m₃ b p) (pieces_send m m₁ m₂ m₃ b c.args.first p)
-    c.apply_all-told.ensures.count c.write_letters-sent.ensures.count w in
-    record { turns = pieces_turn m m₁ m₂ m₃ b p; answer_is = a.0; bytes = a.1 }
+    c.apply_all-told.ensures.count c.write_letters-letters.ensures.count w in
+    finished_as (search rules) (record { turns = pieces_turn m m₁ m₂ m₃ b p; answer_is = a.0; bytes = a.1 })

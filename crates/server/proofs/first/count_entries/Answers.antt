@@ -1,4 +1,4 @@
-use Rattle.std.proofs.Common.{ℕ, Bool, List, length, sym, ap, ◌∙◌, arith}
+use Rattle.std.proofs.Common.{ℕ, Bool, length, sym, ap, ◌∙◌, arith}
 use Rattle.servers.specs.Server.{Message, to_server}
 use Rattle.state.specs.Memory.{limits_of, me_in, servers_in, state_of}
 use Rattle.sending.proofs.ToAll.{how_many}

@@ -1,4 +1,4 @@
-use Rattle.std.proofs.Common.{ℕ, List, arith}
+use Rattle.std.proofs.Common.{ℕ, arith}
 use Rattle.servers.specs.Server.{Message}
 use Rattle.state.specs.Memory.{me_in, servers_in, state_of}
 use Rattle.sending.specs.Letters.{asks}

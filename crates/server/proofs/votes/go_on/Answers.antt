@@ -1,4 +1,4 @@
-use Rattle.std.proofs.Common.{ℕ, List, length, refl}
+use Rattle.std.proofs.Common.{length, refl}
 use Rattle.servers.specs.Server.{timeout}
 use Rattle.state.specs.Memory.{limits_of, state_of}
 use Rattle.server.specs.First.{first_of}

@@ -1,4 +1,4 @@
-use Rattle.std.proofs.Common.{ℕ, List, [], refl}
+use Rattle.std.proofs.Common.{[], refl}
 use Rattle.servers.specs.Server.{Event, comes, appended}
 use Rattle.state.specs.Memory.{limits_of, state_of}
 use Rattle.server.proofs.Answering.{Taken, taken}

@@ -1,4 +1,4 @@
-use Rattle.std.proofs.Common.{ℕ, List, sym, refl}
+use Rattle.std.proofs.Common.{sym, refl}
 use Rattle.servers.specs.Server.{Event, comes, ask_vote}
 use Rattle.state.specs.Memory.{limits_of, state_of}
 use Rattle.server.specs.First.{first_of}

@@ -1,4 +1,4 @@
-use Rattle.std.proofs.Common.{ℕ, List, sym, refl, ◌∙◌}
+use Rattle.std.proofs.Common.{sym, refl, ◌∙◌}
 use Rattle.servers.specs.Server.{timeout}
 use Rattle.checks.specs.declared.refusal.Refusal.TheVariants.{LastTerm}
 use Rattle.state.specs.Memory.{limits_of, state_of}

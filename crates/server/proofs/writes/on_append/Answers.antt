@@ -1,4 +1,4 @@
-use Rattle.std.proofs.Common.{ℕ, List, sym, refl}
+use Rattle.std.proofs.Common.{sym, refl}
 use Rattle.servers.specs.Server.{Event, comes, append}
 use Rattle.wire_read.specs.Means.{entries_of}
 use Rattle.state.specs.Memory.{limits_of, state_of}

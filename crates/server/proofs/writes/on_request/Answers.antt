@@ -1,4 +1,4 @@
-use Rattle.std.proofs.Common.{ℕ, List, sym, refl, ◌∙◌}
+use Rattle.std.proofs.Common.{sym, refl, ◌∙◌}
 use Rattle.servers.specs.Server.{Event, request}
 use Rattle.wire_read.specs.Means.{command_of}
 use Rattle.checks.specs.declared.refusal.Refusal.TheVariants.{LogFull}

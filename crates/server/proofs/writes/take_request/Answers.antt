@@ -1,4 +1,4 @@
-use Rattle.std.proofs.Common.{ℕ, not, List, [], refl, ap}
+use Rattle.std.proofs.Common.{not, [], refl, ap}
 use Rattle.servers.specs.Server.{Event, request}
 use Rattle.wire_read.specs.Means.{command_of}
 use Rattle.state.specs.Memory.{limits_of, state_of}
