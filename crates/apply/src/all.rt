@@ -9,7 +9,7 @@ ghost use Rattle.apply.specs.InMemory.{entry_of, told_of, all_told, region_reach
 
 use crate::one::do_one;
 use crate::tell::tell;
-use state::memory::Memory;
+use state::words::Memory;
 use wire_write::writer::Writer;
 
 // Up to which index entries are due: as far as the log is committed, or to its end.

@@ -6,7 +6,7 @@ ghost use Rattle.memory.specs.Words.{cached_in};
 ghost use Rattle.state.specs.Memory.{clients_in, state_of};
 ghost use Rattle.apply.specs.Applied.{session, kept_for};
 
-use state::memory::Memory;
+use state::words::Memory;
 use wire_write::writer::Writer;
 
 // What there is after the command goes first, then what was before.

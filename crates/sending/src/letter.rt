@@ -9,7 +9,7 @@ ghost use Rattle.sending.specs.Letters.{post, asks};
 
 use crate::append::write_append;
 use raft_log::find::last_term;
-use state::memory::Memory;
+use state::words::Memory;
 use wire_write::writer::Writer;
 
 // How many bytes stand before the message.

@@ -12,7 +12,7 @@ use Rattle.wire_write.specs.declared.answer.Answer.{Answer}
 use Rattle.wire_write.specs.declared.answer.Answer.TheVariants.{Does}
 use Rattle.wire_write.proofs.Answering.{written_means}
 use Rattle.wire_write.proofs.Putting.{writes_then, writes_before, length_put}
-use Rattle.state.specs.declared.memory.Memory.{Memory}
+use Rattle.state.specs.declared.words.Memory.{Memory}
 use Rattle.server.specs.Answered.{Begins, Finished}
 
 pub begins : {r : ℕ} {bs xs ys : List ℕ} → Writes 0 bs xs ys r → Begins bs xs ys

@@ -6,7 +6,7 @@ ghost use Rattle.state.specs.Held.{AlwaysHeld};
 pub mod head;
 pub mod layout;
 pub mod limits;
-pub mod memory;
+pub mod words;
 pub mod parts;
 pub mod peers;
 pub mod votes;
