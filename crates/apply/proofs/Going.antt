@@ -9,7 +9,7 @@ use Rattle.raft_log.specs.Rows.{log_region}
 use Rattle.raft_log.specs.Places.{entry_in}
 use Rattle.raft_log.proofs.Rooms.{room_first, room_next}
 use Rattle.state.specs.Memory.{Becomes, Turns, clients_in, limits_of, region_in, room_in, state_of}
-use Rattle.state.specs.declared.memory.Memory.{Memory}
+use Rattle.state.specs.declared.words.Memory.{Memory}
 use Rattle.memory.specs.Program.{region_all}
 use Rattle.state.proofs.PutBack.{log_held}
 use Rattle.apply.specs.InMemory.{entry_of, told_of, all_told, region_reached}

@@ -14,7 +14,7 @@ use Rattle.memory.proofs.Logs.{due_few}
 use Rattle.memory.proofs.Stored.{reply_good}
 use Rattle.memory.proofs.Doing.{mid_one}
 use Rattle.state.specs.Memory.{limits_of, region_in, room_in, state_of}
-use Rattle.state.specs.declared.memory.Memory.{Memory}
+use Rattle.state.specs.declared.words.Memory.{Memory}
 use Rattle.apply.specs.InMemory.{all_told}
 use Rattle.apply.specs.Applied.{session, region_one}
 use Rattle.apply.proofs.Telling.{tells, one_said}

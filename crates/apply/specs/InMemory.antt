@@ -3,7 +3,7 @@ use Rattle.std.specs.Prelude.{ℕ, List}
 use Rattle.servers.specs.Server.{Entry, Said, tell_one, tell_all, dues}
 use Rattle.raft_log.specs.Places.{entry_in}
 use Rattle.state.specs.Memory.{limits_of, log_part, region_in, state_of}
-use Rattle.state.specs.declared.memory.Memory.{Memory}
+use Rattle.state.specs.declared.words.Memory.{Memory}
 use Rattle.memory.specs.Program.{region_all}
 
 -- the entry at an index of the log, and what this server tells of it

@@ -2,7 +2,7 @@
 use Rattle.std.specs.Prelude.{ℕ, ◌*◌, ◌≤◌, List, length}
 use Rattle.wire.specs.Write.{write_saids}
 use Rattle.state.specs.Memory.{room_in}
-use Rattle.state.specs.declared.memory.Memory.{Memory}
+use Rattle.state.specs.declared.words.Memory.{Memory}
 use Rattle.apply.specs.InMemory.{all_told}
 
 -- 546 bytes at most for each entry that the log has room for

@@ -9,7 +9,7 @@ ghost use Rattle.apply.specs.InMemory.{entry_of, told_of, all_told, region_reach
 
 use crate::one::do_one;
 use crate::tell::tell;
-use state::memory::Memory;
+use state::words::Memory;
 
 // How many clients were told, and the place after what they are told.
 #[derive(Clone, Copy)]

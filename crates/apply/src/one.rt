@@ -14,7 +14,7 @@ ghost use Rattle.apply.specs.InMemory.{entry_of, told_of};
 use crate::session::{is_again, is_new, keep, last_done};
 use raft_log::find;
 use raft_log::row::Numbers;
-use state::memory::Memory;
+use state::words::Memory;
 use store::commands::do_command;
 use store::reply::Reply;
 

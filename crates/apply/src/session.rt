@@ -7,7 +7,7 @@ ghost use Rattle.apply.specs.Applied.{session, answered, reply_in, with_session}
 ghost use Rattle.apply.specs.Means.{last_of};
 
 use state::layout::SESSION;
-use state::memory::Memory;
+use state::words::Memory;
 use store::reply::Reply;
 use texts::copy::copy_text;
 

@@ -6,7 +6,7 @@ ghost use Rattle.memory.specs.Words.{cached_in};
 ghost use Rattle.state.specs.Memory.{clients_in, state_of};
 ghost use Rattle.apply.specs.Applied.{session, kept_for};
 
-use state::memory::Memory;
+use state::words::Memory;
 use wire_write::put::write_number;
 use wire_write::words::write_perhaps_in;
 

@@ -6,7 +6,7 @@ ghost use Rattle.state.specs.Memory.{Becomes, limits_of, servers_in, state_of};
 ghost use Rattle.election.specs.Steps.{newer, carried};
 
 use raft_log::find::last_term;
-use state::memory::Memory;
+use state::words::Memory;
 
 // What is said to who asks: the term, and whether it has the vote.
 #[derive(Clone, Copy)]

@@ -3,7 +3,7 @@ ghost use Rattle.std.specs.Prelude.{◌≡◌};
 ghost use Rattle.servers.specs.Server.{State, restarted};
 ghost use Rattle.state.specs.Memory.{Becomes, limits_of, state_of};
 
-use state::memory::Memory;
+use state::words::Memory;
 
 pub fn start_again(mem: &mut Memory<'_>)
     ensures { Becomes mem.old mem.new

@@ -6,7 +6,7 @@ ghost use Rattle.state.specs.Memory.{Becomes, limits_of, state_of};
 ghost use Rattle.election.specs.Steps.{goes_on};
 
 use servers::limits::Limits;
-use state::memory::Memory;
+use state::words::Memory;
 
 // Whether there is a next term to stand in, for who doesn't lead.
 pub fn may_go_on(mem: &Memory<'_>) -> bool

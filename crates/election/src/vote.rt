@@ -5,7 +5,7 @@ ghost use Rattle.servers.specs.Server.{State, last_of_all, voted_on, hears_vote}
 ghost use Rattle.state.specs.Memory.{Becomes, limits_of, servers_in, state_of};
 ghost use Rattle.election.specs.Steps.{fresh, voted_by};
 
-use state::memory::Memory;
+use state::words::Memory;
 use std::cmp::Ordering;
 
 // Nothing is known of the others, and all of the own log.

@@ -27,7 +27,7 @@ use Rattle.texts.specs.Commands.{GoodCommand}
 use Rattle.wire_read.specs.Means.{entries_of}
 use Rattle.wire_read.specs.declared.parts.Entries.{Entries}
 use Rattle.state.specs.Memory.{limits_of, room_in, servers_in, state_of}
-use Rattle.state.specs.declared.memory.Memory.{Memory}
+use Rattle.state.specs.declared.words.Memory.{Memory}
 use Rattle.memory.proofs.Good.{good_command, good_entries}
 use Rattle.entries.specs.Steps.{CanTake}
 use Rattle.entries.proofs.Logs.{count_is}

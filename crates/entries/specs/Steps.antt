@@ -9,7 +9,7 @@ use Rattle.wire_read.specs.Means.{entries_of}
 use Rattle.wire_read.specs.declared.parts.Entries.{Entries}
 use Rattle.texts.specs.Words.{All}
 use Rattle.state.specs.Memory.{limits_of, room_in}
-use Rattle.state.specs.declared.memory.Memory.{Memory}
+use Rattle.state.specs.declared.words.Memory.{Memory}
 use Rattle.memory.specs.Fits.{EntryFits}
 use Rattle.entries.specs.declared.append.Last.{Last}
 use Rattle.entries.specs.declared.append.Reply.{Reply}

@@ -7,7 +7,7 @@ ghost use Rattle.entries.specs.Steps.{CanTake, last_in, extended, extended_if, h
 
 use crate::rows::replace_entries;
 use raft_log::find;
-use state::memory::Memory;
+use state::words::Memory;
 use wire_read::forward::first_place;
 use wire_read::parts::Entries;
 

@@ -7,7 +7,7 @@ ghost use Rattle.state.specs.Memory.{Becomes, clients_in, limits_of, room_in, st
 
 use crate::rows::push_entry;
 use raft_log::row::Numbers;
-use state::memory::Memory;
+use state::words::Memory;
 use wire_read::parts::Command;
 
 // Its own match index is the new entry's.

@@ -10,7 +10,7 @@ use raft_log::append::push;
 use raft_log::replace::replace;
 use raft_log::row::{Numbers, ROW};
 use state::layout::LENGTH;
-use state::memory::Memory;
+use state::words::Memory;
 use wire_read::parts::{Command, Entries};
 
 // One entry more at the log's end.

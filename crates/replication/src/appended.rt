@@ -5,7 +5,7 @@ ghost use Rattle.servers.specs.Server.{State, last_of_all, hears_appended};
 ghost use Rattle.state.specs.Memory.{Becomes, limits_of, room_in, servers_in, state_of};
 ghost use Rattle.replication.specs.Heard.{heard_from, has_state, lacks_state};
 
-use state::memory::Memory;
+use state::words::Memory;
 
 // What it says, by case, each with a state of its own after it.
 #[derive(Clone, Copy)]

@@ -6,7 +6,7 @@ ghost use Rattle.state.specs.Memory.{Becomes, limits_of, log_part, servers_in, s
 
 use raft_log::find;
 use state::limits::is_majority;
-use state::memory::Memory;
+use state::words::Memory;
 
 // Whether a server is known to have the log up to an index.
 fn has(mem: &Memory<'_>, h: usize, index: usize) -> bool

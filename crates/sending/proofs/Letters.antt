@@ -24,7 +24,7 @@ use Rattle.wire_write.proofs.Texts.{length_number}
 use Rattle.raft_log.specs.Rows.{Row}
 use Rattle.raft_log.proofs.Places.{length_above}
 use Rattle.state.specs.Memory.{state_of}
-use Rattle.state.specs.declared.memory.Memory.{Memory}
+use Rattle.state.specs.declared.words.Memory.{Memory}
 use Rattle.sending.specs.Letters.{post, asks, append_from}
 
 -- the message stands there, then what is before it is written

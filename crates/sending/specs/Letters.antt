@@ -4,7 +4,7 @@ use Rattle.servers.specs.Server.{Entry, Letter, State, Message, ask_vote, append
 use Rattle.servers.specs.Server.{to_others, to_server}
 use Rattle.wire.specs.Write.{write_letter}
 use Rattle.state.specs.Memory.{me_in, servers_in, state_of}
-use Rattle.state.specs.declared.memory.Memory.{Memory}
+use Rattle.state.specs.declared.words.Memory.{Memory}
 
 -- the bytes of a message to a server
 abbrev pub post : ℕ → Message → List ℕ

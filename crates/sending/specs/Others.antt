@@ -2,7 +2,7 @@
 use Rattle.std.specs.Prelude.{ℕ, List}
 use Rattle.servers.specs.Server.{Letter, State, Message, to_others, to_server}
 use Rattle.state.specs.Memory.{me_in, servers_in, state_of}
-use Rattle.state.specs.declared.memory.Memory.{Memory}
+use Rattle.state.specs.declared.words.Memory.{Memory}
 use Rattle.sending.specs.Letters.{asks}
 use Rattle.sending.specs.declared.others.Sent.{Sent}
 use Rattle.sending.specs.declared.others.Sent.TheVariants.{Ask, Entries}

@@ -9,7 +9,7 @@ ghost use Rattle.sending.specs.Letters.{post, asks};
 
 use crate::append::write_append;
 use raft_log::find::last_term;
-use state::memory::Memory;
+use state::words::Memory;
 use wire_write::answer::write_letter_head;
 use wire_write::message::{write_appended, write_ask_vote, write_vote};
 

@@ -8,7 +8,7 @@ ghost use Rattle.sending.specs.Letters.{post, asks_to_all, entries_to_all};
 ghost use Rattle.sending.specs.Others.{message_to, letters_to_all};
 
 use crate::letter::{write_ask_letter, write_entries_letter};
-use state::memory::Memory;
+use state::words::Memory;
 
 // Who stands asks for votes; who leads sends entries. As a closure, each letter's promise would be stated again over references to bytes.
 #[derive(Clone, Copy)]

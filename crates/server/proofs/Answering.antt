@@ -30,7 +30,7 @@ use Rattle.wire.specs.Write.{write_answer}
 use Rattle.wire_write.specs.Answers.{answer_of}
 use Rattle.wire_write.specs.declared.answer.Answer.{Answer}
 use Rattle.state.specs.Memory.{Becomes, limits_of, region_in, state_of}
-use Rattle.state.specs.declared.memory.Memory.{Memory}
+use Rattle.state.specs.declared.words.Memory.{Memory}
 use Rattle.memory.specs.Program.{region_all, region_after, done_from}
 use Rattle.checks.specs.Outcome.{refusal_number, refusal_place}
 use Rattle.checks.specs.declared.refusal.Refusal.{Refusal}

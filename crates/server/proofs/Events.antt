@@ -6,7 +6,7 @@ use Rattle.wire.specs.Write.{write_answer}
 use Rattle.wire_write.specs.Answers.{answer_of}
 use Rattle.wire_write.specs.declared.answer.Answer.{Answer}
 use Rattle.state.specs.Memory.{Becomes, Turns, limits_of, region_in, state_of}
-use Rattle.state.specs.declared.memory.Memory.{Memory}
+use Rattle.state.specs.declared.words.Memory.{Memory}
 use Rattle.checks.specs.Refusals.{by_state}
 use Rattle.servers.specs.Server.{
   Event,

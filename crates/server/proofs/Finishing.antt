@@ -6,7 +6,7 @@ use Rattle.wire.specs.Write.{write_number, write_saids, write_letters, write_ans
 use Rattle.wire_write.proofs.Texts.{length_number}
 use Rattle.servers.proofs.Tests.{pick_by}
 use Rattle.state.specs.Memory.{Becomes, Turns, limits_of, region_in, state_of}
-use Rattle.state.specs.declared.memory.Memory.{Memory}
+use Rattle.state.specs.declared.words.Memory.{Memory}
 use Rattle.memory.specs.Program.{region_all}
 use Rattle.sending.specs.Letters.{asks}
 use Rattle.sending.proofs.Later.{after_doing, entries_later}

@@ -12,7 +12,7 @@ use Rattle.wire.proofs.Sizes.{answer_fits, answer_is_fine}
 use Rattle.wire_write.specs.declared.answer.Answer.{Answer}
 use Rattle.memory.specs.Program.{serves, server, called}
 use Rattle.state.specs.Held.{Held, Holding, limits_of, state_of}
-use Rattle.state.specs.declared.memory.Memory.{Memory}
+use Rattle.state.specs.declared.words.Memory.{Memory}
 use Rattle.state.proofs.Holding.{always_held}
 use Rattle.state.proofs.Laws.{called_from}
 use Rattle.server.specs.Reached.{Reached}

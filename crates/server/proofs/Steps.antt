@@ -9,7 +9,7 @@ use Rattle.checks.specs.Outcome.{Checked}
 use Rattle.checks.specs.Refusals.{can_do}
 use Rattle.checks.specs.declared.refusal.Refusal.{Refusal}
 use Rattle.state.specs.Memory.{limits_held, limits_of}
-use Rattle.state.specs.declared.memory.Memory.{Memory}
+use Rattle.state.specs.declared.words.Memory.{Memory}
 use Rattle.server.specs.Answered.{Answered}
 
 -- what is answered to one is answered to the other

@@ -8,7 +8,7 @@ use Rattle.wire.specs.Read.{read_event}
 use Rattle.wire_write.specs.Answers.{answer_of, means_answer}
 use Rattle.wire_write.specs.declared.answer.Answer as code
 use Rattle.state.specs.Memory.{Turns, limits_of, region_in, room_in, state_of}
-use Rattle.state.specs.declared.memory.Memory.{Memory}
+use Rattle.state.specs.declared.words.Memory.{Memory}
 use Rattle.memory.specs.Program.{serves, region_all, region_after, called, says}
 use Rattle.state.specs.Held as held
 use Rattle.server.specs.Reached.{Reached}

@@ -12,7 +12,7 @@ use crate::refuse::refuse;
 use crate::votes::{on_appended, on_ask, on_timeout, on_vote};
 use crate::writes::{on_append, on_request};
 use checks::check::check;
-use state::memory::Memory;
+use state::words::Memory;
 use wire_read::event::read_event;
 use wire_read::parts::{Event, Message};
 use wire_write::answer::Answer;

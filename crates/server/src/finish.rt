@@ -9,7 +9,7 @@ use crate::first::{First, write_letters};
 use crate::settle::take_send;
 use apply::all::apply_all;
 use replication::commit::settle;
-use state::memory::Memory;
+use state::words::Memory;
 use wire_write::answer::{Answer, write_does_head};
 
 // Where what is told begins: after one byte and its number.

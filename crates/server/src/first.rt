@@ -7,7 +7,7 @@ ghost use Rattle.server.specs.First.{first_of, entries_if, letters_of};
 
 use sending::letter::{write_appended_letter, write_vote_letter};
 use sending::others::{ask_all, others, to_all};
-use state::memory::Memory;
+use state::words::Memory;
 use wire_write::put::write_number;
 
 // What goes out before entries: nothing, requests for votes, a vote to a server, or a reply to entries.

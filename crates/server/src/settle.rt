@@ -3,7 +3,7 @@ ghost use Rattle.std.specs.Prelude.{◌≡◌, ◌&&◌, ◌==◌};
 ghost use Rattle.servers.specs.Server.{sent_now};
 ghost use Rattle.state.specs.Memory.{Becomes, state_of};
 
-use state::memory::Memory;
+use state::words::Memory;
 
 // Whether this server leads and has reason to send; a leader has none afterwards.
 pub fn take_send(mem: &mut Memory<'_>) -> bool

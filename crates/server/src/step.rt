@@ -6,7 +6,7 @@ ghost use Rattle.server.specs.Reached.{Reached};
 ghost use Rattle.server.specs.Answered.{Stepped};
 
 use crate::act::act;
-use state::memory::Memory;
+use state::words::Memory;
 use wire_write::answer::Answer;
 
 // The answer says how many are told, how many letters there are and how many bytes, which stand at the front of `out`.

@@ -13,7 +13,7 @@ use election::ask_vote::asked_for_vote;
 use election::timeout::{may_go_on, time_is_up};
 use election::vote::vote_comes;
 use replication::appended::appended_comes;
-use state::memory::Memory;
+use state::words::Memory;
 use wire_write::answer::Answer;
 
 // Who leads asks for no votes.

@@ -17,7 +17,7 @@ use apply::all::apply_all;
 use checks::refusal::Refusal;
 use entries::append::append;
 use entries::request::request;
-use state::memory::Memory;
+use state::words::Memory;
 use wire_read::parts::{Command, Entries};
 use wire_write::answer::{Answer, write_not_leader};
 

@@ -13,7 +13,7 @@ use Rattle.memory.proofs.Size.{length_memory}
 use Rattle.state.specs.Held as held
 use Rattle.state.specs.Held.{Held}
 use Rattle.state.specs.Memory.{limits_of, state_of, region_in, Turns, Becomes}
-use Rattle.state.specs.declared.memory.Memory.{Memory}
+use Rattle.state.specs.declared.words.Memory.{Memory}
 
 -- the memory of what fits is held
 held_memory : (m : List ℕ) (s : State) (r : List ℕ) → Bounded (held.limits_of m) → Fits (held.limits_of m) s r

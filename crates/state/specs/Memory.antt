@@ -5,7 +5,7 @@ use Rattle.servers.specs.Server.{Limits, State}
 use Rattle.servers.specs.declared.limits.Limits as code
 use Rattle.memory.specs.Layout as layout
 use Rattle.state.specs.Held as held
-use Rattle.state.specs.declared.memory.Memory.{Memory}
+use Rattle.state.specs.declared.words.Memory.{Memory}
 
 -- the limits, as the definitions and as the code have them
 abbrev pub limits_of : Memory → Limits

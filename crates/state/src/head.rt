@@ -20,7 +20,7 @@ ghost use Rattle.state.specs.Memory.{Becomes, limits_of, room_in, servers_in, st
 ghost use Rattle.state.specs.States.{with_kind, calmed};
 
 use crate::layout::{APPLIED, COMMIT, LEADER, LENGTH, ME, ROLE, SEND, TERM, VOTE, VOTES};
-use crate::memory::Memory;
+use crate::words::Memory;
 
 // A server follows, wants to lead, or leads: what its word says.
 #[derive(Clone, Copy, PartialEq, Eq, Debug)]

@@ -4,7 +4,7 @@ ghost use Rattle.memory.specs.Layout.{log_at, store_at, cache_at};
 ghost use Rattle.state.specs.Memory.{limits_held, servers_in};
 
 use crate::layout::{CLIENTS, HEAD, ME, ROOM, SERVERS, SESSION};
-use crate::memory::Memory;
+use crate::words::Memory;
 use raft_log::row::ROW;
 use servers::limits::Limits;
 

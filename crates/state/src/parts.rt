@@ -8,7 +8,7 @@ ghost use Rattle.memory.specs.Layout.{log_part, cache_at};
 ghost use Rattle.state.specs.Memory.{clients_in, region_in, state_of};
 
 use crate::layout::{LENGTH, SESSION};
-use crate::memory::Memory;
+use crate::words::Memory;
 use raft_log::row::{LogRow, ROW};
 
 impl Memory<'_> {

@@ -5,7 +5,7 @@ ghost use Rattle.state.specs.Memory.{Becomes, limits_of, room_in, servers_in, st
 ghost use Rattle.state.specs.States.{with_matches, forgot};
 
 use crate::layout::{HEAD, LENGTH, SERVERS};
-use crate::memory::Memory;
+use crate::words::Memory;
 
 impl Memory<'_> {
     // The next index for a server; where none is known, the log's last index.

@@ -6,7 +6,7 @@ ghost use Rattle.state.specs.States.{with_votes};
 
 use crate::layout::VOTES;
 use crate::limits::is_majority;
-use crate::memory::Memory;
+use crate::words::Memory;
 
 impl Memory<'_> {
     // The vote of a server is added.

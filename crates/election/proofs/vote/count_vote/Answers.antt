@@ -2,7 +2,7 @@ use Rattle.std.proofs.Common.{◌≡◌, Bool, true, List, ℕ, sym, ap, ◌∙�
 use Rattle.servers.specs.Server.{Limits, State, set_at, won}
 use Rattle.servers.proofs.Tests.{pick_true, pick_false}
 use Rattle.state.specs.Memory.{Becomes, limits_of, state_of}
-use Rattle.state.specs.declared.memory.Memory.{Memory}
+use Rattle.state.specs.declared.words.Memory.{Memory}
 use Rattle.state.specs.States.{with_votes, with_kind}
 use Rattle.state.proofs.Laws.{said, then_to}
 use Rattle.election.proofs.vote.count_vote.Goals as goal
