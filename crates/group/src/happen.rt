@@ -129,7 +129,7 @@ pub fn happen_outside(
     ensures { Outcome g kept server event.now mems.old events.old answers.old
         mems.new events.new answers.new result }
 {
-    if server as u64 >= g.servers {
+    if u64::from(server) >= g.servers {
         return Err(Denied::Server);
     }
     if is_message(event) {

@@ -17,7 +17,7 @@ fn pack_entry(row: &mut [u64], entry: Entry<'_>)
 {
     let numbers = Numbers {
         term: entry.term,
-        server: entry.at as u64,
+        server: u64::from(entry.at),
         client: entry.client,
         number: entry.id,
     };

@@ -34,10 +34,7 @@ pub fn bytes(heap: Global, line: &str) -> Result<Vec<u8>, AllocError> {
 // What stands before `=` in a line, and after it.
 pub fn row(heap: Global, line: &str) -> Result<(Vec<u8>, Vec<u8>), AllocError> {
     let line = line.as_bytes();
-    for i in 0..line.len() {
-        if line[i] == b'=' {
-            return Ok((read(heap, &line[..i])?, read(heap, &line[i..])?));
-        }
-    }
-    Ok((read(heap, line)?, Vec::new(heap)))
+    let end = line.iter().position(|b| *b == b'=').unwrap_or(line.len());
+    let (comes, answer) = line.split_at(end);
+    Ok((read(heap, comes)?, read(heap, answer)?))
 }

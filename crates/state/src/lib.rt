@@ -6,10 +6,10 @@ ghost use Rattle.state.specs.Held.{AlwaysHeld};
 pub mod head;
 pub mod layout;
 pub mod limits;
-pub mod words;
 pub mod parts;
 pub mod peers;
 pub mod votes;
+pub mod words;
 
 // Whatever readable events came, the server's memory is held, and holds the state of the definitions.
 pub fn always_held()
