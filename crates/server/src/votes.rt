@@ -64,7 +64,7 @@ pub fn on_ask(
     ensures { Answered mem.old out.old mem.new out.new
         (comes from (ask_vote term last of)) result }
 {
-    let reply = asked_for_vote(mem, u64::from(from), term, last, of);
+    let reply = asked_for_vote(mem, from as u64, term, last, of);
     finish(mem, out, First::Vote(from, reply.term, reply.granted))
 }
 
@@ -76,7 +76,7 @@ pub fn on_vote(mem: &mut Memory<'_>, out: &mut [u8], from: u8, term: u64, grante
     ensures { Answered mem.old out.old mem.new out.new
         (comes from (vote term granted)) result }
 {
-    vote_comes(mem, u64::from(from), term, granted);
+    vote_comes(mem, from as u64, term, granted);
     finish(mem, out, First::Nothing)
 }
 

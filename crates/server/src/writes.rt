@@ -114,7 +114,7 @@ pub fn on_append(
 {
     let reply = append(
         mem,
-        u64::from(from),
+        from as u64,
         term,
         before,
         before_term,
