@@ -57,5 +57,7 @@ does_answered {k = k} {j = j} {n = n} {xs = xs} {ys = ys} {ss = ss} {ts = ts} {l
     )
 
 -- the bytes by another name
-pub finished_as : {m m' : Memory} {xs ys zs : List ℕ} {ls : List Letter} {r : Answer} → zs ≡ ys → Finished m xs m' ys ls r → Finished m xs m' zs ls r
+pub finished_as :
+    {m m' : Memory} {xs ys zs : List ℕ} {ls : List Letter} {r : Answer} → zs ≡ ys → Finished m xs m' ys ls r
+    → Finished m xs m' zs ls r
 finished_as e d = rw e d
