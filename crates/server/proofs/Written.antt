@@ -42,15 +42,6 @@ does_written {r = r} {k = k} {xs = xs} {zs = zs} {ws = ws} ss ls e u v w q =
 pub does_as : {ss ts : List Said} {ls ks : List Letter} → ss ≡ ts → ls ≡ ks → does ss ls ≡ does ts ks
 does_as {ts = ts} {ls = ls} e f = ap (λ (z : List Said). does z ls) e ∙ ap (does ts) f
 
--- the front is written after something else was
-pub begins_after : {at a r : ℕ} {p bs xs ys zs : List ℕ} → Writes at p xs ys a → Writes 0 bs ys zs r → Begins bs xs zs
-begins_after {at = at} {p = p} {xs = xs} u w =
-    let b = begins w in
-    let n = u.next in
-    let h = u.room in
-    let l = ap length u.bytes ∙ length_put at p xs (omega arith) in
-    record { long = b.long ∙ l; within = b.within; front = b.front }
-
 -- an answer that does something, as it is returned and as it stands in the bytes
 pub does_answered : {k j n : ℕ} {xs ys : List ℕ} {ss ts : List Said} {ls es : List Letter} → ss ≡ ts → ls ≡ es → k ≡ length ss
     → j ≡ length ls → Writes 0 (write_answer (does ss ls)) xs ys n
@@ -66,5 +57,7 @@ does_answered {k = k} {j = j} {n = n} {xs = xs} {ys = ys} {ss = ss} {ts = ts} {l
     )
 
 -- the bytes by another name
-pub finished_as : {m m' : Memory} {xs ys zs : List ℕ} {ls : List Letter} {r : Answer} → zs ≡ ys → Finished m xs m' ys ls r → Finished m xs m' zs ls r
+pub finished_as :
+    {m m' : Memory} {xs ys zs : List ℕ} {ls : List Letter} {r : Answer} → zs ≡ ys → Finished m xs m' ys ls r
+    → Finished m xs m' zs ls r
 finished_as e d = rw e d
