@@ -5,7 +5,7 @@ ghost use Rattle.server_tests.specs.Live.{Live};
 use server::open;
 use server::step::step;
 use servers::limits::Limits;
-use state::memory::Memory;
+use state::words::Memory;
 use std::alloc::{AllocError, Global};
 use std::test::Fail;
 use store::bytes::look_up;

@@ -8,7 +8,7 @@ ghost use Rattle.session.specs.Running.{Ended, Ran, RanOne};
 
 use server::open::answer_bytes;
 use server::step::step;
-use state::memory::Memory;
+use state::words::Memory;
 use wire_read::read::read_text;
 use wire_write::writer::Writer;
 

@@ -3,7 +3,7 @@ use crate::{begins, place};
 use std::test::Fail;
 use wire_read::event::read_event;
 use wire_read::parts::{Event, Message};
-use wire_write::{answer, message, put};
+use wire_write::writer::Writer;
 
 const TIMEOUT: &[u8; 1] = b"\0";
 
@@ -138,24 +138,25 @@ fn entries_in_order(rt: HostRuntime) -> Result<(), Fail> {
 #[test]
 fn written_messages_are_read(rt: HostRuntime) {
     let mut b = [7u8; 27];
-    let next = put::write_byte(&mut b, 0, 2);
-    let next = put::write_byte(&mut b, next, 1);
-    let next = message::write_ask_vote(&mut b, next, 5, 6, 7);
-    assert_eq!(rt; next, 27);
+    let mut to = Writer { out: &mut b, at: 0 };
+    to.byte(2);
+    to.byte(1);
+    to.ask_vote(5, 6, 7);
+    assert_eq!(rt; to.at, 27);
     assert_eq!(rt; b, *ASK_VOTE);
     let mut b = [7u8; 12];
     let mut m = [0u8; 10];
-    message::write_vote(&mut m, 0, 9, true);
-    answer::write_comes(&mut b, 0, 4, &m);
+    Writer { out: &mut m, at: 0 }.vote(9, true);
+    Writer { out: &mut b, at: 0 }.comes(4, &m);
     assert_eq!(rt; b, *VOTE);
     let mut m = [0u8; 18];
-    message::write_appended(&mut m, 0, 9, 8, false);
+    Writer { out: &mut m, at: 0 }.appended(9, 8, false);
     let mut b = [7u8; 20];
-    answer::write_comes(&mut b, 0, 0, &m);
+    Writer { out: &mut b, at: 0 }.comes(0, &m);
     assert_eq!(rt; b, *APPENDED);
     let mut m = [0u8; 41];
-    message::write_append_head(&mut m, 0, 4, 0, 0, 0, 0);
+    Writer { out: &mut m, at: 0 }.append_head(4, 0, 0, 0, 0);
     let mut b = [7u8; 43];
-    answer::write_comes(&mut b, 0, 3, &m);
+    Writer { out: &mut b, at: 0 }.comes(3, &m);
     assert_eq!(rt; b, *APPEND_NONE);
 }
