@@ -112,15 +112,7 @@ pub fn on_append(
     ensures { Answered mem.old out.old mem.new out.new
         (comes from (append term before before_term (entries_of entries.entry) commit)) result }
 {
-    let reply = append(
-        mem,
-        from as u64,
-        term,
-        before,
-        before_term,
-        commit,
-        entries,
-    );
+    let reply = append(mem, from as u64, term, before, before_term, commit, entries);
     finish(
         mem,
         out,
