@@ -2,9 +2,8 @@
 ghost use Rattle.std.specs.Prelude.{ℕ, ◌<◌};
 ghost use Rattle.store.specs.Calls.{Held};
 
-use store::bytes::{look_up, packed};
-use store::commands::{do_put, do_remove};
-use store::row::{self, NAME, TEXT};
+use store::bytes::{do_put, do_remove, look_up};
+use store::row;
 
 fn name_of(i: u64) -> [u8; 8] {
     i.wrapping_mul(11400714819323198485).to_be_bytes()
@@ -24,11 +23,7 @@ fn put_at(region: &mut [u64], i: u64, text: u64) -> bool
     if row::len(region) >= row::room(region) {
         return false;
     }
-    let _reply = do_put(
-        region,
-        &packed::<NAME>(&name_of(i)),
-        &packed::<TEXT>(&text.to_be_bytes()),
-    );
+    let _reply = do_put(region, &name_of(i), &text.to_be_bytes());
     true
 }
 
@@ -71,7 +66,7 @@ pub struct Renew;
 impl Operation for Renew {
     fn done(region: &mut [u64], k: u64, items: u32) -> bool {
         let i = item_of(k, items);
-        let reply = do_remove(region, &packed::<NAME>(&name_of(i)));
+        let reply = do_remove(region, &name_of(i));
         put_at(region, i, k) && reply.before[0] != 0
     }
 }

@@ -1,5 +1,5 @@
 // What one line of a world says, or what was expected where it can't be read. What has been read of a line is cut off its front.
-use crate::fault::Fault;
+pub use crate::fault::Fault;
 use crate::text::{push_hex, push_text};
 use crate::words::{next, number};
 

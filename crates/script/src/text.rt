@@ -1,6 +1,6 @@
 // Names and texts as words of a line: a byte from 33 to 126 other than `\` stands for itself, any other is `\` and two small
 // hex digits; `\.` is the empty text.
-ghost use Rattle.std.specs.Prelude.{◌≡◌, ℕ, ◌/◌, ◌%◌, ◌<◌, ◌≢◌, [], ◌∷◌, ◌++◌, length, MatchOption, IfErr, IfSome, List, OnOk};
+ghost use Rattle.std.specs.Prelude.{◌≡◌, ℕ, ◌/◌, ◌%◌, ◌<◌, ◌≢◌, [], ◌∷◌, ◌++◌, length, MatchOption, IfErr, IfSome, List, OnOk, ◌⊎◌};
 ghost use Rattle.std.specs.Char.{digit_char};
 ghost use Rattle.script.specs.Text.{hex_of, InHex, InText, NoFirst, OnlyFirst, Pushed, PushedText, Refuses};
 
@@ -66,6 +66,7 @@ fn first(word: &[u8]) -> Option<(u8, &[u8])>
 pub fn push_text(out: &mut Vec<u8>, word: &[u8], what: &'static str) -> Result<(), Fault>
     ensures ok { OnOk result (PushedText word.now out.old.items out.new.items) }
     ensures err { IfErr result (λ e. Refuses InText word.now e) }
+    ensures says { IfErr result (λ e. (e ≡ Fault.Expected what) ⊎ (e ≡ Fault.NoMemory)) }
 {
     if word == b"\\.".as_slice() {
         return Ok(());

@@ -4,10 +4,8 @@ ghost use Rattle.texts.specs.Words.{All};
 ghost use Rattle.texts.specs.Means.{perhaps_of};
 ghost use Rattle.store.specs.Calls.{Held};
 
-use store::bytes::{packed, packed_perhaps};
 use store::reply::Reply;
-use store::row::{NAME, TEXT};
-use store::{commands, row};
+use store::{bytes, row};
 use texts::pack::{write_perhaps, write_text};
 
 // Whether 33 words are this text or none.
@@ -36,7 +34,7 @@ pub fn get(region: &[u64], name: &[u8], text: Option<&[u8]>) -> bool
     requires held { Held region.now }
     requires short { (length name.now ≤ 64) × (All (λ t. length t ≤ 256) (perhaps_of text)) }
 {
-    let reply = commands::do_get(region, &packed::<NAME>(name));
+    let reply = bytes::do_get(region, name);
     tells(&reply, text, text)
 }
 
@@ -49,7 +47,7 @@ pub fn put(region: &mut [u64], name: &[u8], text: &[u8], old: Option<&[u8]>) -> 
     if row::len(region) >= row::room(region) {
         return false;
     }
-    let reply = commands::do_put(region, &packed::<NAME>(name), &packed::<TEXT>(text));
+    let reply = bytes::do_put(region, name, text);
     tells(&reply, Some(text), old)
 }
 
@@ -58,7 +56,7 @@ pub fn remove(region: &mut [u64], name: &[u8], old: Option<&[u8]>) -> bool
     requires short { (length name.now ≤ 64) × (All (λ t. length t ≤ 256) (perhaps_of old)) }
     ensures held { Held region.new }
 {
-    let reply = commands::do_remove(region, &packed::<NAME>(name));
+    let reply = bytes::do_remove(region, name);
     tells(&reply, None, old)
 }
 
@@ -79,12 +77,7 @@ pub fn swap(
     if row::len(region) >= row::room(region) {
         return false;
     }
-    let reply = commands::do_swap(
-        region,
-        &packed::<NAME>(name),
-        &packed_perhaps(expected),
-        &packed::<TEXT>(text),
-    );
+    let reply = bytes::do_swap(region, name, expected, text);
     tells(&reply, new, old)
 }
 
@@ -100,7 +93,7 @@ pub fn drop_if(
     requires told { (All (λ t. length t ≤ 256) (perhaps_of new)) × (All (λ t. length t ≤ 256) (perhaps_of old)) }
     ensures held { Held region.new }
 {
-    let reply = commands::do_drop_if(region, &packed::<NAME>(name), &packed::<TEXT>(text));
+    let reply = bytes::do_drop_if(region, name, text);
     tells(&reply, new, old)
 }
 

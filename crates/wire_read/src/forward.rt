@@ -1,23 +1,12 @@
 // Entries read forward one at a time in the order of their bytes, which is the last first.
-ghost use Rattle.std.specs.Prelude.{◌≡◌, ◌+◌, ◌<◌, ◌≤◌, length, take, drop};
+ghost use Rattle.std.specs.Prelude.{◌≡◌, ◌<◌};
 ghost use Rattle.std.specs.Iterator.{YieldsFirstBy, item_count};
 ghost use Rattle.servers.specs.Server.{last_index, last_term};
-ghost use Rattle.wire.specs.Read.{number_of};
 ghost use Rattle.wire_read.specs.Means.{entries_of, entry_of};
 
 use crate::command::read_entry;
 use crate::parts::{Entries, Entry};
-use crate::read::read_number;
-
-// Eight bytes at a place that has them.
-#[tactic(auto, unfolding(wire::specs::Read::read_number))]
-fn number_at(b: &[u8], at: usize) -> u64
-    requires { at + 8 ≤ length b.now }
-    ensures { result ≡ number_of (take 8 (drop at b.now)) }
-{
-    let (number, _) = read_number(&b[at..]).unwrap();
-    number
-}
+use crate::read::number_at;
 
 // Index and term of the first of the entries, which stand at known places in it: its command is not looked at.
 pub fn first_place(es: Entries<'_>) -> (u64, u64)

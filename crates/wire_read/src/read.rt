@@ -1,6 +1,7 @@
 // Readers of bytes, numbers and texts. Each takes what it needs from the front of the bytes and hands on the rest, or says how
 // many bytes are left where it is refused: at a byte that can't stand there, or at the end.
-ghost use Rattle.wire.specs.Read.{read_byte, read_number, read_text, read_bool, read_perhaps};
+ghost use Rattle.std.specs.Prelude.{◌≡◌, ◌+◌, ◌≤◌, length, take, drop};
+ghost use Rattle.wire.specs.Read.{number_of, read_byte, read_number, read_text, read_bool, read_perhaps};
 ghost use Rattle.wire_read.specs.Means.{Reads, itself, perhaps_of, text_of};
 
 // No value's bytes go on like this: how many bytes are left.
@@ -26,6 +27,16 @@ pub fn read_number(b: &[u8]) -> Result<(u64, &[u8]), Stuck>
         return Err(Stuck { left: 0 });
     };
     Ok((u64::from_le_bytes(*front), rest))
+}
+
+// Eight bytes at a place that has them.
+#[tactic(auto, unfolding(wire::specs::Read::read_number))]
+pub fn number_at(b: &[u8], at: usize) -> u64
+    requires { at + 8 ≤ length b.now }
+    ensures { result ≡ number_of (take 8 (drop at b.now)) }
+{
+    let (number, _) = read_number(&b[at..]).unwrap();
+    number
 }
 
 // A text's bytes are not looked at.

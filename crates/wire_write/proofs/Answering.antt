@@ -1,12 +1,13 @@
 -- An answer that was written, with the counts that go with it, means itself.
-use Rattle.std.proofs.Common.{◌≡◌, ℕ, List, ◌++◌, length, drop, refl}
+use Rattle.std.proofs.Common.{◌≡◌, ℕ, List, ◌++◌, length, drop, refl, arith}
 use Rattle.std.proofs.lemmas.List.{append_assoc}
 use Rattle.std.proofs.lemmas.Bool.{and_parts}
 use Rattle.servers.specs.Server.{Answer, Entry, append, refused, not_leader, does}
 use Rattle.wire.specs.Write.{write_answer, write_entries, write_letters, write_message, write_number, write_saids}
 use Rattle.wire.proofs.Letters.{letters_back, saids_back}
 use Rattle.wire.proofs.Numbers.{number}
-use Rattle.wire_write.specs.Answers.{WrittenMeans, answer_length, answer_of}
+use Rattle.wire_write.specs.Answers.{WrittenMeans, NumberFirst, ValuesTell, answer_length, answer_of}
+use Rattle.wire_write.specs.declared.answer.Answer.TheVariants.{Refused, NotLeader, Does}
 use Rattle.wire_write.specs.Heads.{append_head}
 
 -- what stands after the first count
@@ -36,6 +37,22 @@ unfolding write_number
 length_answer (refused j k) = refl
 length_answer not_leader = refl
 length_answer (does ss ls) = refl
+
+pub number_first : NumberFirst
+number_first (refused j k) = refl
+number_first not_leader = refl
+number_first (does ss ls) = refl
+
+pub values_tell : ValuesTell
+values_tell (Refused j k) (Refused x y) e v = cc
+values_tell (Refused j k) NotLeader e v = absurd (omega arith)
+values_tell (Refused j k) (Does x y z) e v = absurd (omega arith)
+values_tell NotLeader (Refused x y) e v = absurd (omega arith)
+values_tell NotLeader NotLeader e v = refl
+values_tell NotLeader (Does x y z) e v = absurd (omega arith)
+values_tell (Does n m len) (Refused x y) e v = absurd (omega arith)
+values_tell (Does n m len) NotLeader e v = absurd (omega arith)
+values_tell (Does n m len) (Does x y z) e v = cc
 
 -- an append is its head and its entries
 pub append_parts :
