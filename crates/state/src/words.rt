@@ -21,7 +21,7 @@ impl<'a> Memory<'a> {
         Memory { words }
     }
 
-    // The same words, lent to be read.
+    // The same words, lent to be read: what a memory says of itself is what this says.
     pub fn view(&self) -> View<'_>
         ensures { result.words.now ≡ self.now.words.now }
     {
