@@ -36,7 +36,7 @@ fn apply_next(mem: &mut Memory<'_>, index: usize, to: &mut Writer<'_>) -> u64
     mem.set_applied(index as u64);
     match do_one(mem, index) {
         Some(client) => {
-            tell(mem, client as usize, to);
+            tell(mem.view(), client as usize, to);
             1
         }
         None => 0,

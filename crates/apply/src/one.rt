@@ -89,7 +89,7 @@ pub fn do_one(mem: &mut Memory<'_>, index: usize) -> Option<u64>
 {
     let numbers = numbers_at(mem, index);
     let client = numbers.client as usize;
-    let last = last_done(mem, client);
+    let last = last_done(mem.view(), client);
     let new = is_new(last, numbers.number);
     let again = is_again(last, numbers.number);
     let told = client_to_tell(mem.limits().me, numbers, new, again);

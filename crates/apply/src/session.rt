@@ -2,19 +2,21 @@
 ghost use Rattle.std.specs.Prelude.{◌≡◌, ◌+◌, ◌-◌, ◌<◌, not, ◌&&◌, ◌||◌, ◌∷◌, ◌++◌, length, ◌==◌, nat_lt};
 ghost use Rattle.servers.specs.Server.{Cached};
 ghost use Rattle.state.specs.Memory.{Becomes, clients_in, state_of};
+ghost use Rattle.state.specs.View as view;
 ghost use Rattle.store.specs.Calls.{OfPerhaps};
 ghost use Rattle.apply.specs.Applied.{session, answered, reply_in, with_session};
 ghost use Rattle.apply.specs.Means.{last_of};
 
 use state::layout::SESSION;
+use state::view::View;
 use state::words::Memory;
 use store::reply::Reply;
 use texts::copy::copy_text;
 
 // The last number done for a client, if any was.
-pub fn last_done(mem: &Memory<'_>, client: usize) -> Option<u64>
-    requires there { client < clients_in mem.now }
-    ensures { result ≡ last_of (session (state_of mem.now) client) }
+pub fn last_done(mem: View<'_>, client: usize) -> Option<u64>
+    requires there { client < view.clients_in mem }
+    ensures { result ≡ last_of (session (view.state_of mem.entry) client) }
 {
     let kept = mem.session(client);
     (kept[0] == 1).then_some(kept[1])

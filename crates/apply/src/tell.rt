@@ -3,10 +3,10 @@ ghost use Rattle.std.specs.Prelude.{◌≡◌, ◌-◌, ◌<◌, ◌≤◌, leng
 ghost use Rattle.wire.specs.Write.{write_said};
 ghost use Rattle.wire_write.specs.Put.{Room, Wrote};
 ghost use Rattle.memory.specs.Words.{cached_in};
-ghost use Rattle.state.specs.Memory.{clients_in, state_of};
+ghost use Rattle.state.specs.View.{clients_in, state_of};
 ghost use Rattle.apply.specs.Applied.{session, kept_for};
 
-use state::words::Memory;
+use state::view::View;
 use wire_write::writer::Writer;
 
 // What there is after the command goes first, then what was before.
@@ -23,10 +23,10 @@ fn write_session(to: &mut Writer<'_>, client: u64, kept: &[u64])
     to.perhaps_in(&kept[35..68]);
 }
 
-pub fn tell(mem: &Memory<'_>, client: usize, to: &mut Writer<'_>)
-    requires there { client < clients_in mem.now }
-    requires room { Room (length (write_said (kept_for client (session (state_of mem.now) client)))) to.old }
-    ensures { Wrote (write_said (kept_for client (session (state_of mem.now) client))) to.old to.new }
+pub fn tell(mem: View<'_>, client: usize, to: &mut Writer<'_>)
+    requires there { client < clients_in mem }
+    requires room { Room (length (write_said (kept_for client (session (state_of mem) client)))) to.old }
+    ensures { Wrote (write_said (kept_for client (session (state_of mem.entry) client))) to.old to.new }
 {
     write_session(to, client as u64, mem.session(client));
 }

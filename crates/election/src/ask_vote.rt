@@ -3,9 +3,11 @@
 ghost use Rattle.std.specs.Prelude.{◌≡◌, Bool, true, false, ◌&&◌, ◌||◌, List, [], ◌∷◌, ℕ, ◌<◌, ◌≤◌, ltb, leb, eqb, length};
 ghost use Rattle.servers.specs.Server.{State, Letter, Message, ask_vote, last_of_all, as_new, empty, may_vote, asked, back};
 ghost use Rattle.state.specs.Memory.{Becomes, limits_of, servers_in, state_of};
+ghost use Rattle.state.specs.View as view;
 ghost use Rattle.election.specs.Steps.{newer, carried};
 
 use raft_log::find::last_term;
+use state::view::View;
 use state::words::Memory;
 
 // What is said to who asks: the term, and whether it has the vote.
@@ -23,8 +25,8 @@ fn is_newer(own: u64, length: u64, of: u64, last: u64) -> bool
     (own, length) <= (of, last)
 }
 
-pub fn is_as_new(mem: &Memory<'_>, last: u64, of: u64) -> bool
-    ensures { result ≡ as_new last of (state_of mem.now) }
+pub fn is_as_new(mem: View<'_>, last: u64, of: u64) -> bool
+    ensures { result ≡ as_new last of (view.state_of mem.entry) }
 {
     let length = mem.last_index();
     let own = last_term(mem.log());
@@ -32,10 +34,10 @@ pub fn is_as_new(mem: &Memory<'_>, last: u64, of: u64) -> bool
 }
 
 // Whether the vote of this term goes to h.
-fn grants(mem: &Memory<'_>, h: u64, last: u64, of: u64) -> bool
-    requires here { h < servers_in mem.now }
-    ensures { result ≡ (as_new last of (state_of mem.now)
-        && (empty (state_of mem.now).leader && may_vote (state_of mem.now).voted h)) }
+fn grants(mem: View<'_>, h: u64, last: u64, of: u64) -> bool
+    requires here { h < view.servers_in mem }
+    ensures { result ≡ (as_new last of (view.state_of mem.entry)
+        && (empty (view.state_of mem.entry).leader && may_vote (view.state_of mem.entry).voted h)) }
 {
     is_as_new(mem, last, of) && mem.may_vote(h)
 }
@@ -54,7 +56,7 @@ pub fn asked_for_vote(mem: &mut Memory<'_>, h: u64, term: u64, last: u64, of: u6
         };
     }
     mem.advance(term);
-    let granted = grants(mem, h, last, of);
+    let granted = grants(mem.view(), h, last, of);
     if granted {
         mem.vote_for(h);
     }

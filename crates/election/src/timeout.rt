@@ -3,14 +3,16 @@
 ghost use Rattle.std.specs.Prelude.{◌≡◌, Bool, true, false, ◌||◌, ℕ, ◌<◌, ◌≤◌, ltb, eqb};
 ghost use Rattle.servers.specs.Server.{State, timeout, first_step, last_of_all};
 ghost use Rattle.state.specs.Memory.{Becomes, limits_of, state_of};
+ghost use Rattle.state.specs.View as view;
 ghost use Rattle.election.specs.Steps.{goes_on};
 
 use servers::limits::Limits;
+use state::view::View;
 use state::words::Memory;
 
 // Whether there is a next term to stand in, for who doesn't lead.
-pub fn may_go_on(mem: &Memory<'_>) -> bool
-    ensures { result ≡ goes_on (state_of mem.now) }
+pub fn may_go_on(mem: View<'_>) -> bool
+    ensures { result ≡ goes_on (view.state_of mem.entry) }
 {
     let leads = mem.is_leader();
     let term = mem.term();

@@ -24,8 +24,8 @@ use Rattle.wire_write.proofs.Putting.{writes_as, writes_before, wrote_as, wrote_
 use Rattle.wire_write.proofs.Texts.{length_number}
 use Rattle.raft_log.specs.Rows.{Row}
 use Rattle.raft_log.proofs.Places.{length_above}
-use Rattle.state.specs.Memory.{state_of}
-use Rattle.state.specs.declared.words.Memory.{Memory}
+use Rattle.state.specs.View.{state_of}
+use Rattle.state.specs.declared.view.View.{View}
 use Rattle.sending.specs.Letters.{post, asks, append_from}
 
 -- the message stands there, then what is before it is written
@@ -64,12 +64,12 @@ append_written t i u c k log row e f w v =
 
 -- what is read from a memory is what its state says
 pub same_append :
-    (m : Memory) (log : List Entry) (h t b c : ℕ) → log ≡ (state_of m).log → t ≡ (state_of m).term → b ≡ next_for (state_of m) h - 1
+    (m : View) (log : List Entry) (h t b c : ℕ) → log ≡ (state_of m).log → t ≡ (state_of m).term → b ≡ next_for (state_of m) h - 1
     → c ≡ (state_of m).commit → append_from log t b c ≡ to_server (state_of m) h
 same_append m log h t b c p r s u = rw (p, r, s, u) refl
 
 pub same_ask :
-    (m : Memory) (log : List Entry) (n t u : ℕ) → log ≡ (state_of m).log → t ≡ (state_of m).term → n ≡ last_index (state_of m).log
+    (m : View) (log : List Entry) (n t u : ℕ) → log ≡ (state_of m).log → t ≡ (state_of m).term → n ≡ last_index (state_of m).log
     → u ≡ last_term log → ask_vote t n u ≡ asks (state_of m)
 same_ask m log n t u p r s e = rw (r, s, e, p) refl
 

@@ -4,12 +4,12 @@ ghost use Rattle.std.specs.Prelude.{◌≡◌, ◌+◌, ◌-◌, ◌<◌, ◌≤
 ghost use Rattle.servers.specs.Server.{State, Message, vote, appended, next_for, to_server};
 ghost use Rattle.wire_write.specs.Heads.{letter_head};
 ghost use Rattle.wire_write.specs.Put.{Room, Writes, Wrote};
-ghost use Rattle.state.specs.Memory.{servers_in, state_of};
+ghost use Rattle.state.specs.View.{servers_in, state_of};
 ghost use Rattle.sending.specs.Letters.{post, asks};
 
 use crate::append::write_append;
 use raft_log::find::last_term;
-use state::words::Memory;
+use state::view::View;
 use wire_write::writer::Writer;
 
 // How many bytes stand before the message.
@@ -54,10 +54,10 @@ pub fn write_appended_letter(to: &mut Writer<'_>, h: u8, term: u64, index: u64, 
 }
 
 // RequestVote of who stands in its term.
-pub fn write_ask_letter(mem: &Memory<'_>, to: &mut Writer<'_>, h: usize)
-    requires here { h < servers_in mem.now }
-    requires room { Room (length (post h (asks (state_of mem.now)))) to.old }
-    ensures { Wrote (post h (asks (state_of mem.now))) to.old to.new }
+pub fn write_ask_letter(mem: View<'_>, to: &mut Writer<'_>, h: usize)
+    requires here { h < servers_in mem }
+    requires room { Room (length (post h (asks (state_of mem)))) to.old }
+    ensures { Wrote (post h (asks (state_of mem.entry))) to.old to.new }
 {
     let term = mem.term();
     let len = mem.last_index();
@@ -69,18 +69,18 @@ pub fn write_ask_letter(mem: &Memory<'_>, to: &mut Writer<'_>, h: usize)
 }
 
 // The index before the next one for a server: entries are sent from there on.
-fn sent_before(mem: &Memory<'_>, h: usize) -> u64
-    requires here { h < servers_in mem.now }
-    ensures { result ≡ next_for (state_of mem.now) h - 1 }
+fn sent_before(mem: View<'_>, h: usize) -> u64
+    requires here { h < servers_in mem }
+    ensures { result ≡ next_for (state_of mem.entry) h - 1 }
 {
     mem.next_for(h).saturating_sub(1)
 }
 
 // AppendEntries: the entries from a server's next index on.
-pub fn write_entries_letter(mem: &Memory<'_>, to: &mut Writer<'_>, h: usize)
-    requires here { h < servers_in mem.now }
-    requires room { Room (length (post h (to_server (state_of mem.now) h))) to.old }
-    ensures { Wrote (post h (to_server (state_of mem.now) h)) to.old to.new }
+pub fn write_entries_letter(mem: View<'_>, to: &mut Writer<'_>, h: usize)
+    requires here { h < servers_in mem }
+    requires room { Room (length (post h (to_server (state_of mem) h))) to.old }
+    ensures { Wrote (post h (to_server (state_of mem.entry) h)) to.old to.new }
 {
     let before = sent_before(mem, h);
     let term = mem.term();

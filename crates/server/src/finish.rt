@@ -26,7 +26,7 @@ pub fn finish(mem: &mut Memory<'_>, out: &mut [u8], first: First) -> Answer
     let send = take_send(mem);
     let mut to = Writer { out, at: TOLD };
     let told = apply_all(mem, &mut to);
-    let letters = write_letters(mem, &mut to, first, send);
+    let letters = write_letters(mem.view(), &mut to, first, send);
     let end = to.at;
     to.at = 0;
     to.does_head(told);

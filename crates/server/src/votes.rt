@@ -41,7 +41,7 @@ pub fn on_timeout(mem: &mut Memory<'_>, out: &mut [u8]) -> Answer
     requires room { RoomFor mem.old timeout (length out.old) }
     ensures { Answered mem.old out.old mem.new out.new timeout result }
 {
-    let free = may_go_on(mem);
+    let free = may_go_on(mem.view());
     if !free {
         return refuse(out, Refusal::LastTerm);
     }

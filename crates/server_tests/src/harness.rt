@@ -5,7 +5,7 @@ ghost use Rattle.server_tests.specs.Live.{Live};
 use server::open;
 use server::step::step;
 use servers::limits::Limits;
-use state::words::Memory;
+use state::view::View;
 use std::alloc::{AllocError, Global};
 use std::test::Fail;
 use store::bytes::look_up;
@@ -39,15 +39,15 @@ pub fn take(heap: Global, mem: &mut [u64], event: &[u8]) -> Result<Vec<u8>, Allo
     Vec::from_slice(heap, &out[..len.min(BYTES)])
 }
 
-// Whether the store has this text for a name. The words are lent to a memory, which knows where the store is.
-pub fn has(mem: &mut [u64], name: &[u8], text: &[u8]) -> bool
-    requires live { Live mem.old }
+// Whether the store has this text for a name.
+pub fn has(mem: &[u64], name: &[u8], text: &[u8]) -> bool
+    requires live { Live mem.now }
     requires name { length name.now ≤ 64 }
     requires text { length text.now ≤ 256 }
 {
     let mut words = [0u64; 33];
     write_text(&mut words, text);
-    match look_up(Memory::new(mem).store(), name) {
+    match look_up(View::new(mem).store(), name) {
         Some(found) => found == &words[..],
         None => false,
     }

@@ -8,7 +8,7 @@ ghost use Rattle.session.specs.Running.{Ended, Ran, RanOne};
 
 use server::open::answer_bytes;
 use server::step::step;
-use state::words::Memory;
+use state::view::View;
 use wire_read::read::read_text;
 use wire_write::writer::Writer;
 
@@ -32,13 +32,12 @@ fn run_one(mem: &mut [u64], event: &[u8], out: &mut [u8], at: usize) -> usize
     first + len
 }
 
-// How many bytes the record of the longest answer has. The words are lent to a memory, which reads its limits.
-fn longest(mem: &mut [u64]) -> usize
-    requires reached { Reached (limits_of mem.old) mem.old }
-    ensures same { mem.new ≡ mem.old }
-    ensures size { result ≡ 8 + answer_size (limits_of mem.old) }
+// How many bytes the record of the longest answer has.
+fn longest(mem: &[u64]) -> usize
+    requires reached { Reached (limits_of mem.now) mem.now }
+    ensures { result ≡ 8 + answer_size (limits_of mem.now) }
 {
-    let l = Memory::new(mem).limits();
+    let l = View::new(mem).limits();
     8 + answer_bytes(l)
 }
 

@@ -1,4 +1,5 @@
 pub mod Held
 pub mod States
 pub mod Memory
+pub mod View
 pub mod Once

@@ -16,10 +16,10 @@ ghost use Rattle.servers.specs.Server.{
   last_index,
   last_of_all,
 };
-ghost use Rattle.state.specs.Memory.{Becomes, limits_of, room_in, servers_in, state_of};
 ghost use Rattle.state.specs.States.{with_kind, calmed};
 
 use crate::layout::{APPLIED, COMMIT, LEADER, LENGTH, ME, ROLE, SEND, TERM, VOTE, VOTES};
+use crate::view::View;
 use crate::words::Memory;
 
 // A server follows, wants to lead, or leads: what its word says.
@@ -30,55 +30,115 @@ pub enum Role {
     Leader = 2,
 }
 
+impl View<'_> {
+    ghost use Rattle.state.specs.View.{room_in, servers_in, state_of};
+
+    pub fn term(self) -> u64
+        ensures value { result ≡ (state_of self.entry).term }
+        ensures low { result ≤ last_of_all }
+    {
+        self.words[TERM]
+    }
+
+    pub fn commit(self) -> u64
+        ensures value { result ≡ (state_of self.entry).commit }
+        ensures low { result ≤ room_in self.entry }
+    {
+        self.words[COMMIT]
+    }
+
+    pub fn applied(self) -> u64
+        ensures value { result ≡ (state_of self.entry).applied }
+        ensures low { result ≤ room_in self.entry }
+    {
+        self.words[APPLIED]
+    }
+
+    // The length of the log, which is its last index.
+    pub fn last_index(self) -> u64
+        ensures word { result ≡ slice_index self.entry.words.now 10 }
+        ensures last { result ≡ last_index (state_of self.entry).log }
+        ensures low { result ≤ room_in self.entry }
+    {
+        self.words[LENGTH]
+    }
+
+    pub fn is_leader(self) -> bool
+        ensures { result ≡ ((state_of self.entry).kind == 2) }
+    {
+        self.words[ROLE] == Role::Leader as u64
+    }
+
+    pub fn is_candidate(self) -> bool
+        ensures { result ≡ ((state_of self.entry).kind == 1) }
+    {
+        self.words[ROLE] == Role::Candidate as u64
+    }
+
+    // Whether the server knows no leader, and gave its vote to nobody but h.
+    pub fn may_vote(self, h: u64) -> bool
+        requires here { h < servers_in self }
+        ensures { result ≡ (empty (state_of self.entry).leader && may_vote (state_of self.entry).voted h) }
+    {
+        self.words[LEADER] == 0 && (self.words[VOTE] == 0 || self.words[VOTE] == h + 1)
+    }
+
+    pub fn must_send(self) -> bool
+        ensures { result ≡ (state_of self.entry).send }
+    {
+        self.words[SEND] == 1
+    }
+}
+
 impl Memory<'_> {
+    ghost use Rattle.state.specs.Memory.{Becomes, limits_of, room_in, servers_in, state_of};
+
     pub fn term(&self) -> u64
         ensures value { result ≡ (state_of self.now).term }
         ensures low { result ≤ last_of_all }
     {
-        self.words[TERM]
+        self.view().term()
     }
 
     pub fn commit(&self) -> u64
         ensures value { result ≡ (state_of self.now).commit }
         ensures low { result ≤ room_in self.now }
     {
-        self.words[COMMIT]
+        self.view().commit()
     }
 
     pub fn applied(&self) -> u64
         ensures value { result ≡ (state_of self.now).applied }
         ensures low { result ≤ room_in self.now }
     {
-        self.words[APPLIED]
+        self.view().applied()
     }
 
-    // The length of the log, which is its last index.
     pub fn last_index(&self) -> u64
         ensures word { result ≡ slice_index self.now.words.now 10 }
         ensures last { result ≡ last_index (state_of self.now).log }
         ensures low { result ≤ room_in self.now }
     {
-        self.words[LENGTH]
+        self.view().last_index()
     }
 
     pub fn is_leader(&self) -> bool
         ensures { result ≡ ((state_of self.now).kind == 2) }
     {
-        self.words[ROLE] == Role::Leader as u64
+        self.view().is_leader()
     }
 
     pub fn is_candidate(&self) -> bool
         ensures { result ≡ ((state_of self.now).kind == 1) }
     {
-        self.words[ROLE] == Role::Candidate as u64
+        self.view().is_candidate()
     }
 
-    // Whether the server knows no leader, and gave its vote to nobody but h.
     pub fn may_vote(&self, h: u64) -> bool
         requires here { h < servers_in self.now }
         ensures { result ≡ (empty (state_of self.now).leader && may_vote (state_of self.now).voted h) }
     {
-        self.words[LEADER] == 0 && (self.words[VOTE] == 0 || self.words[VOTE] == h + 1)
+        self.view().may_vote(h)
     }
 
     // A newer term: no vote yet, no leader known, and the server follows.
@@ -164,7 +224,7 @@ impl Memory<'_> {
     pub fn must_send(&self) -> bool
         ensures { result ≡ (state_of self.now).send }
     {
-        self.words[SEND] == 1
+        self.view().must_send()
     }
 
     // A term that is newer is taken; any other changes nothing.

@@ -8,6 +8,7 @@ pub mod layout;
 pub mod limits;
 pub mod parts;
 pub mod peers;
+pub mod view;
 pub mod votes;
 pub mod words;
 

@@ -4,6 +4,8 @@ ghost use Rattle.std.specs.Prelude.{◌≡◌};
 ghost use Rattle.state.specs.Held.{Held};
 ghost use Rattle.state.specs.Once.{Held_once};
 
+use crate::view::View;
+
 #[derive(Drop)]
 pub struct Memory<'a> {
     pub words: &'a mut [u64],
@@ -17,5 +19,12 @@ impl<'a> Memory<'a> {
         ensures words { result.words.now ≡ words.old }
     {
         Memory { words }
+    }
+
+    // The same words, lent to be read: what a memory says of itself is what this says.
+    pub fn view(&self) -> View<'_>
+        ensures { result.words.now ≡ self.now.words.now }
+    {
+        View::new(self.words)
     }
 }

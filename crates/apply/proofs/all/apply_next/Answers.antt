@@ -1,12 +1,22 @@
-use Rattle.std.proofs.Common.{ℕ, length, sym, ap, ◌∙◌, arith}
-use Rattle.wire.specs.Write.{write_saids}
+use Rattle.std.proofs.Common.{◌≡◌, ℕ, List, length, sym, ap, ◌∙◌, arith}
+use Rattle.wire.specs.Write.{write_said, write_saids}
 use Rattle.wire_write.proofs.Putting.{wrote_as, wrote_none}
+use Rattle.memory.specs.Layout as layout
+use Rattle.state.specs.Held as held
 use Rattle.state.specs.Memory.{limits_of, state_of}
+use Rattle.state.specs.View as view
+use Rattle.state.specs.declared.view.View.{View}
+use Rattle.state.specs.declared.words.Memory.{Memory}
 use Rattle.apply.specs.Applied.{session, kept_for, told_client}
 use Rattle.apply.proofs.Telling.{one_said, told_none}
 use Rattle.apply.specs.InMemory.{entry_of}
 use Rattle.apply.proofs.Going.{same_told, next_turns, next_told}
 use Rattle.apply.proofs.all.apply_next.Goals as goal
+
+-- what is told is read from the words that are lent
+told_from : (v : View) (m : Memory) (client : ℕ) → v.words.now ≡ m.words.now
+    → write_said (kept_for client (session (view.state_of v) client)) ≡ write_said (kept_for client (session (state_of m) client))
+told_from v m client e = ap (λ (z : List ℕ). write_said (kept_for client (session (held.state_of z) client))) e
 
 pub tell-requires : goal.tell-requires
 tell-requires c =
@@ -22,7 +32,10 @@ tell-requires c =
     ∙ (c.do_one.ensures.told ∙ ap told_client (same_told m c.set_applied.new.self i b)) in
     let x = next_told m m₂ i k (omega arith) c.requires.there t e in
     let same = ap length (ap write_saids x.1 ∙ one_said (kept_for k (session (state_of m₂) k))) in
-    record { there = x.0; room = omega arith }
+    let lent = ap length (told_from c.view.result m₂ k c.view.ensures) in
+    let clients = ap layout.clients_in c.view.ensures in
+    let there = x.0 in
+    record { there = omega arith; room = omega arith }
 
 pub returns-in-Some : goal.returns-in-Some
 returns-in-Some c =
@@ -39,7 +52,9 @@ returns-in-Some c =
     let one = ap length x.1 in
     record {
       turns = t;
-      bytes = wrote_as (sym (ap write_saids x.1 ∙ one_said (kept_for k (session (state_of m₂) k)))) c.tell.ensures;
+      bytes = wrote_as
+          (told_from c.view.result m₂ k c.view.ensures
+          ∙ sym (ap write_saids x.1 ∙ one_said (kept_for k (session (state_of m₂) k)))) c.tell.ensures;
       count = omega arith;
     }
 

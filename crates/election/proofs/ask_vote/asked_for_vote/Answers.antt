@@ -3,6 +3,7 @@ use Rattle.std.proofs.lemmas.Bool.{lt-ltb, le-ltb}
 use Rattle.servers.specs.Store.{pick}
 use Rattle.servers.specs.Server.{asked, State, with_voted, advanced, as_new, empty, may_vote, grants}
 use Rattle.servers.proofs.Tests.{pick_true, pick_false}
+use Rattle.state.specs.Held as held
 use Rattle.state.specs.Memory.{state_of}
 use Rattle.state.proofs.Laws.{stays, said, then_to}
 use Rattle.election.proofs.ask_vote.asked_for_vote.Goals as goal
@@ -45,8 +46,8 @@ returns-then-granted-clause-state c =
     let e : (state_of m).term ≤ c.args.term = omega (arith, c.term-own.ensures.value, c.if-term-own.false) in
     then_to (with_voted c.args.h) m c.advance.new.self c.vote_for.new.self (advanced c.args.term (state_of m)) _ c.advance.ensures
     c.vote_for.ensures
-    (sym (asked_by (state_of m) _ c.args.h c.args.term c.args.last c.args.of _ true e c.advance.ensures.state c.grants-granted.ensures
-    c.if-granted.true))
+    (sym (asked_by (state_of m) _ c.args.h c.args.term c.args.last c.args.of _ true e
+    (ap held.state_of c.view.ensures ∙ c.advance.ensures.state) c.grants-granted.ensures c.if-granted.true))
 
 pub returns-else-granted-clause-state : goal.returns-else-granted-clause-state
 unfolding given
@@ -54,5 +55,5 @@ returns-else-granted-clause-state c =
     let m = c.args.mem.now in
     let e : (state_of m).term ≤ c.args.term = omega (arith, c.term-own.ensures.value, c.if-term-own.false) in
     said m c.advance.new.self (advanced c.args.term (state_of m)) _
-    (sym (asked_by (state_of m) _ c.args.h c.args.term c.args.last c.args.of _ false e c.advance.ensures.state
-    c.grants-granted.ensures c.if-granted.false)) c.advance.ensures
+    (sym (asked_by (state_of m) _ c.args.h c.args.term c.args.last c.args.of _ false e
+    (ap held.state_of c.view.ensures ∙ c.advance.ensures.state) c.grants-granted.ensures c.if-granted.false)) c.advance.ensures

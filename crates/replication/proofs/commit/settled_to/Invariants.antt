@@ -1,7 +1,7 @@
 use Rattle.std.proofs.Common.{◌≡◌, ◌+◌, ◌/◌, ◌≤◌, drop}
 use Rattle.servers.specs.Server.{have_it, settled_to}
 use Rattle.raft_log.specs.Rows.{log_in}
-use Rattle.state.specs.Memory.{limits_of, log_part, state_of}
+use Rattle.state.specs.View.{limits_of, log_part, state_of}
 use Rattle.replication.proofs.commit.settled_to.Given as goal
 
 -- those that have it, and those that are left, are those that have it

@@ -2,7 +2,7 @@ use Rattle.std.proofs.Common.{ℕ, ◌+◌, length, ap, ◌∙◌, arith}
 use Rattle.std.proofs.lemmas.List.{length-append}
 use Rattle.servers.specs.Server.{Message}
 use Rattle.servers.specs.declared.limits.Limits.{Limits}
-use Rattle.state.specs.Memory.{me_in, servers_in, state_of}
+use Rattle.state.specs.View.{me_in, servers_in, state_of}
 use Rattle.wire_write.proofs.Putting.{length_wrote}
 use Rattle.sending.specs.Letters.{post}
 use Rattle.sending.specs.Others.{message_to}
@@ -12,14 +12,14 @@ use Rattle.sending.proofs.ToAll.{sent_bytes, sent_start, sent_more, sent_on, sen
 
 pub loop-h-init : goal.loop-h-init
 loop-h-init c =
-    let m = c.args.mem.now in
+    let m = c.args.mem in
     let f : (ℕ → Message) = message_to c.args.sent (state_of m) in
     let room = c.requires.room in
     sent_start c.args.to.now (me_in m) f (omega arith)
 
 pub write_one-requires : goal.write_one-requires
 write_one-requires c =
-    let m = c.args.mem.now in
+    let m = c.args.mem in
     let h : ℕ = c.loop-h.h in
     let f : (ℕ → Message) = message_to c.args.sent (state_of m) in
     let few = ap (λ (l : Limits). l.servers) c.limits-all.ensures in
@@ -34,7 +34,7 @@ write_one-requires c =
 
 pub loop-h-preserved : goal.loop-h-preserved
 loop-h-preserved c =
-    let m = c.args.mem.now in
+    let m = c.args.mem in
     let h : ℕ = c.loop-h.h in
     let f : (ℕ → Message) = message_to c.args.sent (state_of m) in
     let me = ap (λ (l : Limits). l.me) c.limits-all.ensures in

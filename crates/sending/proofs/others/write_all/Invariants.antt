@@ -1,5 +1,5 @@
 use Rattle.wire_write.specs.Put.{Wrote}
-use Rattle.state.specs.Memory.{me_in, state_of}
+use Rattle.state.specs.View.{me_in, state_of}
 use Rattle.sending.specs.Others.{message_to}
 use Rattle.sending.proofs.ToAll.{sent_bytes}
 use Rattle.sending.proofs.others.write_all.Given as goal

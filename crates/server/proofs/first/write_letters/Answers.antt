@@ -1,7 +1,7 @@
 use Rattle.std.proofs.Common.{List, arith}
 use Rattle.std.proofs.lemmas.List.{length-append}
 use Rattle.servers.specs.Server.{Letter}
-use Rattle.state.specs.Memory.{limits_of, state_of}
+use Rattle.state.specs.View.{limits_of, state_of}
 use Rattle.wire_write.proofs.Putting.{length_wrote}
 use Rattle.server.specs.First.{first_of, entries_if}
 use Rattle.server.proofs.Sent.{length_letters, all_sent}
@@ -9,7 +9,7 @@ use Rattle.server.proofs.first.write_letters.Goals as goal
 
 pub write_first-requires : goal.write_first-requires
 write_first-requires c =
-    let m = c.args.mem.now in
+    let m = c.args.mem in
     let ls : List Letter = first_of (limits_of m) (state_of m) c.args.first in
     let es : List Letter = entries_if c.args.send (limits_of m) (state_of m) in
     let n = length_letters ls es in
@@ -20,7 +20,7 @@ write_first-requires c =
 
 pub write_entries_if-requires : goal.write_entries_if-requires
 write_entries_if-requires c =
-    let m = c.args.mem.now in
+    let m = c.args.mem in
     let ls : List Letter = first_of (limits_of m) (state_of m) c.args.first in
     let es : List Letter = entries_if c.args.send (limits_of m) (state_of m) in
     let n = length_letters ls es in
@@ -33,7 +33,7 @@ write_entries_if-requires c =
 
 pub returns : goal.returns
 returns c =
-    let m = c.args.mem.now in
+    let m = c.args.mem in
     let ls : List Letter = first_of (limits_of m) (state_of m) c.args.first in
     let es : List Letter = entries_if c.args.send (limits_of m) (state_of m) in
     let n = length-append ls es in

@@ -1,5 +1,5 @@
-use Rattle.std.proofs.Common.{ℕ, List, sym, subst}
-use Rattle.session.proofs.Taking.{Going, going_none, going_more, leaves}
+use Rattle.std.proofs.Common.{ℕ, List}
+use Rattle.session.proofs.Taking.{going_none, going_more, leaves}
 use Rattle.session.proofs.run.run.Goals as goal
 
 pub taking-init : goal.taking-init
@@ -7,7 +7,7 @@ taking-init c =
     let m : List ℕ = c.args.mem.now in
     let bs : List ℕ = c.args.records.now in
     let xs : List ℕ = c.args.out.now in
-    subst (λ (w : List ℕ). Going m bs xs w xs bs 0) (sym c.longest-size.ensures.same) (going_none m bs xs c.requires.reached)
+    going_none m bs xs c.requires.reached
 
 pub taking-smaller : goal.taking-smaller
 taking-smaller c = (leaves c.taking.rest.now c.in-Ok.event.now c.in-Ok.after.now c.in-Ok.ensures).0

@@ -2,7 +2,7 @@ use Rattle.std.proofs.Common.{◌≡◌, ℕ, ◌-◌, ◌≤◌, eqb, Some, Non
 use Rattle.std.specs.Option.{SomeIff, unwrap_or}
 use Rattle.servers.specs.Store.{pick}
 use Rattle.servers.proofs.Tests.{pick_true, pick_false}
-use Rattle.state.proofs.words.Memory.next_for.Goals as goal
+use Rattle.state.proofs.view.View.next_for.Goals as goal
 use Rattle.state.proofs.Laws.{long}
 use Rattle.state.proofs.PeerWords.{next_is, next_low}
 
@@ -12,11 +12,11 @@ one_less None w d s = sym (pick_true _ d (w - 1) (eq-eqb w 0 (omega arith)))
 one_less (Some n) w d s = s.1 ∙ sym (pick_false _ d (w - 1) (ne_eqb w 0 (λ z. omega arith)))
 
 pub bounds-self-h : goal.bounds-self-h
-bounds-self-h c = let z = long c.args.self.now.words.now c.args.self.now.held in omega arith
+bounds-self-h c = let z = long c.args.self.words.now c.args.self.held in omega arith
 
 pub returns : goal.returns
 returns c =
-    let is = next_is c.args.self.now.words.now c.args.h c.args.self.now.held c.requires.here in
-    let low = next_low c.args.self.now.words.now c.args.h c.args.self.now.held in
+    let is = next_is c.args.self.words.now c.args.h c.args.self.held c.requires.here in
+    let low = next_low c.args.self.words.now c.args.h c.args.self.held in
     let same = c.unwrap_or.ensures ∙ one_less _ _ _ c.checked_sub.ensures in
     record { value = same ∙ sym is; low = omega arith }

@@ -1,7 +1,0 @@
-use Rattle.std.proofs.Common.{sym, refl}
-use Rattle.state.proofs.words.Memory.last_index.Goals as goal
-use Rattle.state.proofs.Laws.{last_is, long_log}
-
-pub returns : goal.returns
-returns c =
-    record { word = refl; last = sym (last_is c.args.self.now.words.now); low = long_log c.args.self.now.words.now c.args.self.now.held }
