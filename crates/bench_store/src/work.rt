@@ -1,5 +1,5 @@
 // What is timed: names of eight bytes, scattered by a multiplication, and texts of eight bytes.
-ghost use Rattle.std.specs.Prelude.{ℕ, ◌<◌};
+ghost use Rattle.std.specs.Prelude.{◌≡◌, ℕ, ◌<◌};
 ghost use Rattle.store.specs.Calls.{Held};
 
 use store::bytes::{do_put, do_remove, look_up};
@@ -47,7 +47,12 @@ impl Operation for Fill {
 pub struct Look;
 
 impl Operation for Look {
-    fn done(region: &mut [u64], k: u64, items: u32) -> bool {
+    fn done(region: &mut [u64], k: u64, items: u32) -> bool
+        requires held { Held region.old }
+        requires some { 0 < items }
+        ensures held { Held region.new }
+        ensures same { region.new ≡ region.old }
+    {
         look_up(region, &name_of(item_of(k, items))).is_some()
     }
 }

@@ -66,7 +66,7 @@ fn first(word: &[u8]) -> Option<(u8, &[u8])>
 pub fn push_text(out: &mut Vec<u8>, word: &[u8], what: &'static str) -> Result<(), Fault>
     ensures ok { OnOk result (PushedText word.now out.old.items out.new.items) }
     ensures err { IfErr result (λ e. Refuses InText word.now e) }
-    ensures says { IfErr result (λ e. (e ≡ Fault.Expected what) ⊎ (e ≡ Fault.NoMemory)) }
+    ensures says { IfErr result (λ e. (e ≡ Fault.Expected what.entry) ⊎ (e ≡ Fault.NoMemory)) }
 {
     if word == b"\\.".as_slice() {
         return Ok(());

@@ -79,7 +79,12 @@ pub fn do_swap(region: &mut [u64], name: &[u8], expected: Option<&[u8]>, text: &
         result.after result.before }
 {
     let expected = packed_perhaps(expected);
-    commands::do_swap(region, &packed::<NAME>(name), &expected, &packed::<TEXT>(text))
+    commands::do_swap(
+        region,
+        &packed::<NAME>(name),
+        &expected,
+        &packed::<TEXT>(text),
+    )
 }
 
 pub fn do_drop_if(region: &mut [u64], name: &[u8], text: &[u8]) -> Reply

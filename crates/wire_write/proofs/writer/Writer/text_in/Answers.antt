@@ -1,5 +1,4 @@
-use Rattle.std.proofs.Common.{length, ap, arith}
-use Rattle.std.proofs.lemmas.List.{length-drop, take_rest}
+use Rattle.std.proofs.Common.{arith}
 use Rattle.texts.specs.Words.{text_in}
 use Rattle.wire_write.proofs.Texts.{length_text, length_text_in}
 use Rattle.wire_write.proofs.writer.Writer.text_in.Goals as goal
