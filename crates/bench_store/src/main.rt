@@ -10,7 +10,7 @@ ghost use Rattle.store.specs.Calls.{Held};
 use std::time::Instant;
 use std::{env, io};
 use store::start::open_region;
-use work::{Fill, Look, Put, Renew, all};
+use work::{Fill, Put, Renew, all, look_all};
 
 mod work;
 
@@ -41,13 +41,13 @@ impl Kind {
     }
 
     // How many of so many operations did what they are for.
-    fn count(self, region: &mut [u64], items: u32, operations: u64) -> u64
+    fn count(self, region: &mut [u64], items: u64, operations: u64) -> u64
         requires held { Held region.old }
         requires some { 0 < items }
         ensures held { Held region.new }
     {
         match self {
-            Kind::Look => all::<Look>(region, items, operations),
+            Kind::Look => look_all(region, items, operations),
             Kind::Put => all::<Put>(region, items, operations),
             Kind::Renew => all::<Renew>(region, items, operations),
         }
@@ -98,10 +98,10 @@ fn run(
     if items == 0 {
         return println!(rt; "nothing to do");
     }
-    let n = items as u32;
+    let n = items as u64;
     open_region(region, items + 1);
     let start = Instant::now(rt)?;
-    let done = all::<Fill>(region, n, items as u64);
+    let done = all::<Fill>(region, n, n);
     tell(rt, "filled", done, start, plan.times)?;
     for kind in plan.kinds {
         let start = Instant::now(rt)?;

@@ -1,9 +1,30 @@
 -- Letters are written after commands were applied: they are those of the state before, since applying changes nothing that they say.
-use Rattle.std.proofs.Common.{◌≡◌, ℕ, false, eqb, List, [], ◌∷◌, refl, ap, ◌∙◌}
+use Rattle.std.proofs.Common.{◌≡◌, ℕ, false, eqb, List, [], ◌∷◌, sym, refl, ap, ◌∙◌}
 use mathlib.Core.Path.{fun_ext}
 use Rattle.servers.specs.Store.{Store}
-use Rattle.servers.specs.Server.{Entry, Cached, State, is_new, do_one, do_all, dues, with_done, with_send, sent_now, finished, to_others, to_server}
+use Rattle.servers.specs.Server.{
+  Entry,
+  Cached,
+  Limits,
+  State,
+  Message,
+  timeout,
+  is_new,
+  do_one,
+  do_all,
+  dues,
+  wants,
+  with_done,
+  with_send,
+  settles,
+  sent_now,
+  finished,
+  to_others,
+  to_server,
+  first_letters,
+}
 use Rattle.servers.proofs.Tests.{pick_by}
+use Rattle.sending.specs.Letters.{asks}
 
 -- what doing a command leaves as it is, doing all leaves
 pub after_doing :
@@ -24,3 +45,16 @@ sent_later s h =
 pub entries_later :
     (n m : ℕ) (s : State) → to_others n m (λ h. to_server (finished (sent_now s)) h) ≡ to_others n m (λ h. to_server s h)
 entries_later n m s = ap (to_others n m) (fun_ext (λ h. sent_later s h))
+
+-- a candidate's requests for votes
+pub asks_later :
+    (l : Limits) (s : State) → eqb s.kind 2 ≡ false
+    → to_others l.servers l.me (λ h. asks (finished (sent_now (settles l (wants l s))))) ≡ first_letters l s timeout
+asks_later l s k =
+    let w : State = wants l s in
+    let e : asks (finished (sent_now (settles l w))) ≡ asks w = after_doing asks (λ d c x. refl) w (dues w) in
+    ap (λ (x : Message). to_others l.servers l.me (λ h. x)) e
+    ∙ sym (pick_false k)
+  where
+    pick_false : eqb s.kind 2 ≡ false → first_letters l s timeout ≡ to_others l.servers l.me (λ h. asks (wants l s))
+    pick_false k = rw k refl

@@ -2,3 +2,4 @@ pub mod Letters
 pub mod Rows
 pub mod ToAll
 pub mod Later
+pub mod Fitting

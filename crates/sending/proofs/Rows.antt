@@ -9,7 +9,7 @@ use Rattle.memory.specs.Layout.{log_part, region_in}
 use Rattle.memory.proofs.Back.{log_back}
 use Rattle.state.specs.Held.{Held, limits_of, state_of}
 
-held_sound : (m : List ℕ) → Held m → Sound (get_or m 10 0) (log_part m)
+pub held_sound : (m : List ℕ) → Held m → Sound (get_or m 10 0) (log_part m)
 held_sound m h =
     let l : Limits = limits_of m in
     let s : State = state_of m in

@@ -1,5 +1,5 @@
 -- Letters to all others, one after the other.
-use Rattle.std.proofs.Common.{◌≡◌, ℕ, zero, suc, ◌+◌, ◌-◌, ◌<◌, ◌≤◌, Bool, eqb, ◌≢◌, List, [], ◌∷◌, ◌++◌, length, sym, refl, ap, ◌∙◌, inl, inr, arith}
+use Rattle.std.proofs.Common.{◌≡◌, ℕ, zero, suc, ◌+◌, ◌-◌, ◌*◌, ◌<◌, ◌≤◌, Bool, eqb, ◌≢◌, List, [], ◌∷◌, ◌++◌, length, sym, refl, ap, ◌∙◌, inl, inr, suc-mul, arith}
 use Rattle.std.proofs.lemmas.List.{append_assoc, append-nil, length-append}
 use Rattle.std.proofs.lemmas.Bool.{cases_eq, cases_lt, eq-eqb, ne_eqb}
 use Rattle.servers.specs.Store.{pick}
@@ -95,4 +95,24 @@ how_many (suc n) m f h =
     elim (cases_eq n m) [
       | inl q ↦ let a = all_of n m f (omega arith) in let b = count_same n m f q in omega arith
       | inr q ↦ let ih = how_many n m f (omega arith) in let b = count_more n m f q in omega arith
+    ]
+
+-- none longer than k
+pub sent_most :
+    (n m k : ℕ) (f : ℕ → Message) → ((h : ℕ) → length (post h (f h)) ≤ k) → length (sent_bytes n m f) ≤ length (to_others n m f) * k
+unfolding to_others write_letters
+sent_most zero m k f g = omega arith
+sent_most (suc n) m k f g =
+    let z : n + 1 ≡ suc n = omega arith in
+    let ih = sent_most n m k f g in
+    elim (cases_eq n m) [
+      | inl q ↦
+          let a = ap length (sent_none n m f q ∙ ap (λ (j : ℕ). sent_bytes j m f) z) in
+          rw (count_same n m f q) (omega arith)
+      | inr q ↦
+          let a = ap length (sent_more n m f q ∙ ap (λ (j : ℕ). sent_bytes j m f) z) in
+          let b = length-append (sent_bytes n m f) (post n (f n)) in
+          let d = g n in
+          let p = suc-mul (length (to_others n m f)) k in
+          rw (count_more n m f q) (omega arith)
     ]

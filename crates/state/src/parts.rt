@@ -29,7 +29,8 @@ impl<'a> View<'a> {
         ensures rows { (i : ℕ) → 0 < i → i ≤ length result.now → row_at i (words_of result.now) ≡ row_at i (log_part self.entry.words.now) }
         ensures long { length result.now ≡ length (state_of self.entry).log }
     {
-        let (rows, _) = self.log_part()[..ROW * self.words[LENGTH] as usize].as_chunks();
+        let start = self.log_at();
+        let (rows, _) = self.words[start..start + ROW * self.words[LENGTH] as usize].as_chunks();
         rows
     }
 

@@ -22,6 +22,11 @@ length_rows_words (x ∷ xs) =
     let a = length-append (item_words x) (rows_words xs) in
     let b = length_item_words x in let c = length_rows_words xs in omega arith
 
+pub length_rows_in : (n : ℕ) (ws : List ℕ) → length (rows_in n ws) ≡ n
+unfolding rows_in
+length_rows_in zero ws = refl
+length_rows_in (suc n) ws = ap suc (length_rows_in n (drop 42 ws))
+
 -- what is written is read back
 item_back : (x : Item) → GoodItem x → item_in (item_words x) ≡ x
 item_back x g =

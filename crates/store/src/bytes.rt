@@ -43,6 +43,7 @@ pub fn look_up<'a>(region: &'a [u64], name: &[u8]) -> Option<&'a [u64]>
     find::look_up(region, &packed::<NAME>(name))
 }
 
+// The commands, each by one call on what its bytes are packed into: it says of the bytes what a caller would have to prove of the words.
 pub fn do_get(region: &[u64], name: &[u8]) -> Reply
     requires held { Held region.now }
     requires name { length name.now ≤ 64 }

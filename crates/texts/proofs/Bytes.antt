@@ -14,6 +14,11 @@ all_drop P zero xs a = a
 all_drop P (suc n) [] a = tt
 all_drop P (suc n) (x ∷ xs) a = all_drop P n xs a.1
 
+pub all_take : {A : Type 0} (P : A → Type 0) (n : ℕ) (xs : List A) → All P xs → All P (take n xs)
+all_take P zero xs a = tt
+all_take P (suc n) [] a = tt
+all_take P (suc n) (x ∷ xs) a = (a.0, all_take P n xs a.1)
+
 pub first_byte : (t : List ℕ) → All Byte t → get_or t 0 0 < 256
 first_byte [] a = omega arith
 first_byte (b ∷ t) a = a.0
@@ -22,6 +27,11 @@ pub length_bytes_be : (n x : ℕ) → length (bytes_be n x) ≡ n
 unfolding bytes_be
 length_bytes_be zero x = refl
 length_bytes_be (suc n) x = ap suc (length_bytes_be n x)
+
+pub length_padded : (n : ℕ) (t : List ℕ) → length (padded n t) ≡ n
+unfolding padded
+length_padded zero t = refl
+length_padded (suc n) t = ap suc (length_padded n (drop 1 t))
 
 pub power_pos : (n : ℕ) → 0 < 256 ^ n
 power_pos zero = let z = pow-zero 256 in omega arith
